@@ -1,0 +1,6 @@
+pub mod Laws
+pub mod Ends
+pub mod SignedLaws
+pub mod Answering
+pub mod SignedAnswering
+pub mod Completion

@@ -1,0 +1,32 @@
+use mir.Val.{to_z, of_z}
+use Rattle.std.proofs.Common.{w64, ℕ, ◌<◌, ◌^◌, ◌≡◌, ◌-ℤ◌, pos, negsuc, arith, ap, sym, ◌∙◌}
+use Rattle.std.proofs.lemmas.Int.{ints}
+use Rattle.am_leb.specs.Reading.{from_magnitude}
+use Rattle.am_leb.proofs.Answering.{first_signed-short, first_signed-cut, first_signed-large, first_signed-long, first_signed-found}
+use Rattle.am_leb.proofs.signed.signed_number_at.Goals as goal
+
+pub returns-then-magnitude : goal.returns-then-magnitude
+returns-then-magnitude c = first_signed-large _ _ _ _ c.in-Some.ensures c.is_negative-negative.ensures c.magnitude_of-magnitude.ensures (omega arith)
+
+pub returns-then-signed_len-len : goal.returns-then-signed_len-len
+returns-then-signed_len-len c = first_signed-long _ _ _ _ c.in-Some.ensures c.is_negative-negative.ensures c.magnitude_of-magnitude.ensures (omega arith) (omega arith)
+
+pub returns-then-bytes-lt10 : goal.returns-then-bytes-lt10
+returns-then-bytes-lt10 c = first_signed-short _ c.in-None.ensures (omega arith)
+
+pub returns-else-bytes-lt10 : goal.returns-else-bytes-lt10
+returns-else-bytes-lt10 c = first_signed-cut _ c.in-None.ensures (omega arith)
+
+below_zero : (n : ℕ) → n < 2 ^ 63 → to_z w64 (of_z w64 (negsuc 0 -ℤ to_z w64 n)) ≡ negsuc n
+below_zero n h = omega (arith, ints)
+
+above_zero : (n : ℕ) → n < 2 ^ 63 → to_z w64 n ≡ pos n
+above_zero n h = omega (arith, ints)
+
+pub returns-then-negative : goal.returns-then-negative
+returns-then-negative c = first_signed-found _ _ _ _ _ c.in-Some.ensures c.is_negative-negative.ensures c.magnitude_of-magnitude.ensures (omega arith) (omega arith)
+    (below_zero c.magnitude_of-magnitude.result (omega arith) ∙ ap (λ t. from_magnitude t c.magnitude_of-magnitude.result) (sym c.if-negative.true))
+
+pub returns-else-negative : goal.returns-else-negative
+returns-else-negative c = first_signed-found _ _ _ _ _ c.in-Some.ensures c.is_negative-negative.ensures c.magnitude_of-magnitude.ensures (omega arith) (omega arith)
+    (above_zero c.magnitude_of-magnitude.result (omega arith) ∙ ap (λ t. from_magnitude t c.magnitude_of-magnitude.result) (sym c.if-negative.false))

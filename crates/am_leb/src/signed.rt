@@ -1,0 +1,131 @@
+//! Signed numbers. A number is its sign and its magnitude: n, or -1 - n where it is negative.
+ghost use Rattle.std.specs.Prelude.{◌≡◌, ◌<◌, ◌≤◌, ◌^◌, ◌++◌, ◌↔◌, ◌⊎◌, ℕ, ℤ, pos, List, length, take, All, IfOk, OnOk, OnErr, FitsSigned};
+ghost use Rattle.std.specs.Int.{w64};
+ghost use Rattle.am_leb.specs.Leb.{leb, signed_value, ends_negative, seven_bits, IsLeb, BeginsWith};
+ghost use Rattle.am_leb.specs.Reading.{first_signed, digit, magnitude, from_magnitude};
+
+use crate::fault::LebFault;
+use crate::spelling::end_of;
+use std::alloc::AllocError;
+
+fn digit_of(byte: u8, negative: bool) -> u8
+    ensures { result ≡ digit negative byte }
+{
+    if negative {
+        127 - byte % 128
+    } else {
+        byte % 128
+    }
+}
+
+fn magnitude_of(spelling: &[u8], negative: bool) -> u128
+    requires { length spelling.now ≤ 10 }
+    ensures { result ≡ magnitude negative spelling.now }
+{
+    let mut value = 0u128;
+    for i in (0..spelling.len()).rev() {
+        value = u128::from(digit_of(spelling[i], negative)) + 128 * value;
+    }
+    value
+}
+
+fn signed_len(magnitude: u64) -> usize
+    ensures { result ≡ length (leb (pos magnitude)) }
+{
+    let mut rest = magnitude;
+    let mut len = 1;
+    while rest >= 64 {
+        rest /= 128;
+        len += 1;
+    }
+    len
+}
+
+fn is_negative(spelling: &[u8]) -> bool
+    requires { 0 < length spelling.now }
+    ensures { result ≡ ends_negative spelling.now }
+{
+    spelling[spelling.len() - 1] >= 64
+}
+
+fn signed_number_at(bytes: &[u8]) -> Result<(i64, usize), LebFault>
+    ensures { result ≡ first_signed bytes.now }
+{
+    match end_of(bytes) {
+        None => Err(if bytes.len() < 10 {
+            LebFault::Short
+        } else {
+            LebFault::Large
+        }),
+        Some(len) => {
+            let spelling = &bytes[..len];
+            let negative = is_negative(spelling);
+            let magnitude = magnitude_of(spelling, negative);
+            if magnitude >= 1 << 63 {
+                return Err(LebFault::Large);
+            }
+            if signed_len(magnitude as u64) < len {
+                return Err(LebFault::Long);
+            }
+            let value = magnitude as i64;
+            Ok((if negative { -1 - value } else { value }, len))
+        }
+    }
+}
+
+/// The signed number that stands first in the bytes, and how many bytes it takes there.
+pub fn read_i(bytes: &[u8]) -> Result<(i64, usize), LebFault>
+    ensures found { IfOk result (λ r. FitsSigned w64 r.0 × (r.1 ≤ length bytes.now) × IsLeb (take r.1 bytes.now) r.0) }
+    ensures only { (n : ℤ) (rest : List ℕ) → FitsSigned w64 n → bytes.now ≡ leb n ++ rest → result ≡ Ok (n, length (leb n)) }
+    ensures short { (result ≡ Err LebFault.Short) ↔ ((length bytes.now < 10) × All (λ b. 128 ≤ b) bytes.now) }
+    ensures long { (result ≡ Err LebFault.Long) ↔ BeginsWith bytes.now (λ s. FitsSigned w64 (signed_value s) × (¬ IsLeb s (signed_value s))) }
+    ensures large { (result ≡ Err LebFault.Large)
+        ↔ (((10 ≤ length bytes.now) × All (λ b. 128 ≤ b) (take 10 bytes.now)) ⊎ BeginsWith bytes.now (λ s. ¬ FitsSigned w64 (signed_value s))) }
+    // The same as one function of the bytes, for the crates whose definitions read numbers.
+    ensures exact { result ≡ first_signed bytes.now }
+{
+    signed_number_at(bytes)
+}
+
+// The low bits of one byte of a spelling.
+fn bits_of(negative: bool, low: u8) -> u8
+    requires { low < 128 }
+    ensures value { result ≡ seven_bits negative low }
+    ensures below { result < 128 }
+{
+    if negative { 127 - low } else { low }
+}
+
+fn push_magnitude(out: &mut Vec<u8>, negative: bool, magnitude: u64) -> Result<(), AllocError>
+    requires { magnitude < 2 ^ 63 }
+    ensures ok { OnOk result (out.new.items ≡ out.old.items ++ leb (from_magnitude negative magnitude)) }
+    ensures err { OnErr result (out.new.items ≡ out.old.items) }
+{
+    let mut spelling = [0u8; 10];
+    let mut rest = magnitude;
+    let mut len = 0;
+    while rest >= 64 {
+        spelling[len] = bits_of(negative, (rest % 128) as u8) + 128;
+        rest /= 128;
+        len += 1;
+    }
+    spelling[len] = bits_of(negative, rest as u8);
+    out.extend_from_slice(&spelling[..len + 1])
+}
+
+/// Appends the shortest spelling, all of it or, without memory, nothing.
+pub fn push_i(out: &mut Vec<u8>, n: i64) -> Result<(), AllocError>
+    ensures ok { OnOk result (out.new.items ≡ out.old.items ++ leb n) }
+    ensures err { OnErr result (out.new.items ≡ out.old.items) }
+{
+    if n < 0 {
+        push_magnitude(out, true, (-1 - n) as u64)
+    } else {
+        push_magnitude(out, false, n as u64)
+    }
+}
+
+/// Each signed number has exactly one shortest spelling.
+pub fn one_signed_spelling()
+    ensures { (n : ℤ) (bytes : List ℕ) → IsLeb bytes n ↔ (bytes ≡ leb n) }
+{}
