@@ -1,0 +1,46 @@
+//! One command: its reply, and what it does.
+ghost use Rattle.std.specs.Prelude.{◌≡◌, ◌≤◌, ◌∷◌, [], count_by, IfOk, IsErrOf, IsTrue};
+ghost use Rattle.am_outside.specs.Counts.{Rose, RoseBy};
+ghost use Rattle.am_cli.specs.Machine.{Answers, state, refused, is_absent, names_file, kept_file};
+ghost use Rattle.am_cli.specs.Ends.{FilesStay};
+
+use crate::command::{Command, LineFault};
+use crate::halt::Stop;
+use crate::listing::list_frames;
+use am_outside::{FetchFault, Folder};
+use am_types::Text;
+use std::alloc::{AllocError, Global};
+
+fn refusal(alloc: Global, why: &str) -> Result<Text, AllocError>
+    ensures { IfOk result (λ reply. reply ≡ refused why.now) }
+{
+    Ok(Text::from(format!(in alloc; "refused {why}\n")?))
+}
+
+/// The reply to what a line asks for. A command that keeps a file must make its reply before it does, so that
+/// memory is never wanting afterwards.
+pub fn answer<F: Folder>(
+    alloc: Global,
+    asked: &Result<Command, LineFault>,
+    files: &mut F,
+) -> Result<Text, Stop>
+    ensures step { IfOk result (λ reply. Answers (state (F.files files.old)) asked.now reply (state (F.files files.new))) }
+    ensures absent { IfOk result (λ reply. RoseBy (count_by is_absent (reply ∷ [])) (F.misses files.old) (F.misses files.new)) }
+    ensures misses { F.misses files.old ≤ F.misses files.new }
+    ensures faults { F.faults files.old ≤ F.faults files.new }
+
+    ensures failed { IsErrOf result Stop.File → Rose (F.faults files.old) (F.faults files.new) }
+    ensures names { IsErrOf result Stop.File → IsTrue (names_file asked.now) }
+    ensures left { IsErrOf result Stop.File → FilesStay (kept_file asked.now) (F.files files.old) (F.files files.new) }
+    ensures no_memory { IsErrOf result Stop.NoMemory → F.files files.new ≡ F.files files.old }
+{
+    match asked {
+        Err(LineFault::Syntax) => Ok(refusal(alloc, "syntax")?),
+        Ok(Command::Frames(name)) => match files.fetch(alloc, name.as_str()) {
+            Ok(bytes) => Ok(list_frames(alloc, &bytes)?),
+            Err(FetchFault::Absent) => Ok(refusal(alloc, "absent")?),
+            Err(FetchFault::Failed) => Err(Stop::File),
+            Err(FetchFault::NoMemory) => Err(Stop::NoMemory),
+        },
+    }
+}

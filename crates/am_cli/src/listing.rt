@@ -1,0 +1,58 @@
+//! The reply that lists the chunks of a file, one to a line.
+ghost use Rattle.std.specs.Prelude.{◌≡◌, ◌++◌, ◌∷◌, [], OnOk, IfOk, Some, string_bytes, decimal, codes};
+ghost use Rattle.sha2.specs.Sha256.{sha256};
+ghost use Rattle.am_frame.specs.Frames.{chunk_of, covered};
+ghost use Rattle.am_cli.specs.Script.{newline};
+ghost use Rattle.am_cli.specs.Machine.{Lists, chunk_line, kind_word, bad_frame};
+
+use am_frame::{Frame, next_frame};
+use am_types::{Hash, Text};
+use std::alloc::{AllocError, Global};
+
+fn kind_word(kind: u8) -> &'static str
+    ensures { result.now ≡ kind_word kind }
+{
+    if kind == 0 { "document" } else { "change" }
+}
+
+// Appends the line of a chunk.
+fn push_line(alloc: Global, lines: &mut String, frame: &Frame<'_>) -> Result<(), AllocError>
+    requires { frame.now.hash.0 ≡ sha256 (covered frame.now.kind frame.now.contents.now) }
+    ensures { OnOk result (string_bytes lines.new ≡ string_bytes lines.old ++ chunk_line (chunk_of frame.now.kind frame.now.contents.now)) }
+{
+    let word = kind_word(frame.kind);
+    let count = frame.contents.len();
+    let Hash(digest) = frame.hash;
+    let hash = hex::encode(alloc, digest.as_slice())?;
+    write!(lines, "{word} {count} {hash}\n")
+}
+
+fn bad(alloc: Global, number: u64) -> Result<Text, AllocError>
+    ensures { IfOk result (λ reply. reply ≡ bad_frame number) }
+{
+    Ok(Text::from(format!(in alloc; "refused bad-frame chunk {number}\n")?))
+}
+
+fn whole(alloc: Global, count: u64, lines: &str) -> Result<Text, AllocError>
+    ensures { IfOk result (λ reply. reply ≡ codes "ok " ++ decimal count ++ newline ∷ [] ++ lines.now) }
+{
+    Ok(Text::from(format!(in alloc; "ok {count}\n{lines}")?))
+}
+
+/// The type, the length and the hash of each chunk of a file, or the number of the first that is bad.
+pub fn list_frames(alloc: Global, bytes: &[u8]) -> Result<Text, AllocError>
+    ensures { IfOk result (λ reply. Lists (Some bytes.now) reply) }
+{
+    let mut lines = String::new(alloc);
+    let mut rest = bytes;
+    let mut count = 0u64;
+    'chunks: while !rest.is_empty() {
+        let Ok(frame) = next_frame(rest) else {
+            return bad(alloc, count + 1);
+        };
+        push_line(alloc, &mut lines, &frame)?;
+        rest = frame.rest;
+        count += 1;
+    }
+    whole(alloc, count, lines.as_str())
+}

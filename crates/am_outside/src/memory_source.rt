@@ -1,0 +1,78 @@
+//! An input in memory.
+ghost use Rattle.std.specs.Prelude.{◌≡◌, ◌≤◌, ◌<◌, ℕ, drop, take, length, Some, vec_len};
+ghost use Rattle.am_outside.specs.Calls.{fresh};
+
+use crate::faults::Failed;
+use crate::source::Source;
+
+// Moves up to `most` bytes from the front of one slice to that of another, and says how many.
+fn copy_front(from: &[u8], to: &mut [u8], most: usize) -> usize
+    requires { 1 ≤ most }
+    ensures within { result ≤ length to.new }
+    ensures there { result ≤ length from.now }
+    ensures some { result ≡ 0 → 0 < length to.new → length from.now ≡ 0 }
+    ensures bytes { take result to.new ≡ take result from.now }
+{
+    let count = from.len().min(to.len()).min(most);
+    to[..count].copy_from_slice(&from[..count]);
+    count
+}
+
+/// Bytes that are given in pieces of bounded length. The calls whose numbers, from 0, stand in a list fail.
+#[derive(Drop)]
+pub struct MemorySource {
+    bytes: Vec<u8>,
+    at: usize,
+    most: usize,
+    failing: Vec<u64>,
+    calls: u64,
+    faults: u64,
+    taken: u64,
+    ghost within: { at ≤ vec_len bytes },
+    ghost some: { 1 ≤ most },
+}
+
+impl MemorySource {
+    /// Gives at most `most` bytes a call, and fails the calls whose numbers, from 0, are in `failing`.
+    pub fn new(bytes: Vec<u8>, most: usize, failing: Vec<u64>) -> Self
+        requires { 1 ≤ most }
+        ensures left { ⟦<MemorySource as Source>⟧.left result ≡ Some bytes.items }
+        ensures taken { ⟦<MemorySource as Source>⟧.taken result ≡ 0 }
+        ensures faults { ⟦<MemorySource as Source>⟧.faults result ≡ 0 }
+        ensures calls { ⟦<MemorySource as Source>⟧.calls result ≡ Some (fresh failing.items) }
+    {
+        MemorySource {
+            bytes,
+            at: 0,
+            most,
+            failing,
+            calls: 0,
+            faults: 0,
+            taken: 0,
+        }
+    }
+}
+
+impl Source for MemorySource {
+    ghost left = { λ s. Some (drop s.at s.bytes.items) };
+
+    ghost taken = { λ s. s.taken };
+
+    ghost faults = { λ s. s.faults };
+
+    ghost calls = { λ s. Some (record { made = s.calls; failing = s.failing.items }) };
+
+    fn read(&mut self, buffer: &mut [u8]) -> Result<usize, Failed> {
+        let call = self.calls;
+        self.calls = call.saturating_add(1);
+        if self.failing.contains(&call) {
+            self.faults = self.faults.saturating_add(1);
+            return Err(Failed);
+        }
+        let (_, rest) = self.bytes.split_at(self.at);
+        let count = copy_front(rest, buffer, self.most);
+        self.at += count;
+        self.taken = self.taken.saturating_add(count as u64);
+        Ok(count)
+    }
+}

@@ -1,0 +1,79 @@
+//! What no clause says: that the calls succeed, and that the real versions pass on what they are given.
+use crate::{
+    Failed, FetchFault, Folder, HostFolder, MemoryFolder, MemorySink, MemorySource, ReadSource,
+    Sink, Source, WriteFault, WriteSink,
+};
+use std::collections::VecDeque;
+use std::test::Fail;
+use std::{env, fs};
+
+#[test]
+fn memory_source_gives_pieces(rt: HostRuntime) -> Result<(), Fail> {
+    let alloc = rt.alloc();
+    let mut source = MemorySource::new(b"hello".to_vec(alloc)?, 3, vec![in alloc; 1]?);
+    let mut buffer = [0u8; 8];
+    assert_eq!(rt; source.read(&mut buffer), Ok(3));
+    assert_eq!(rt; source.read(&mut buffer), Err(Failed));
+    assert_eq!(rt; source.read(&mut buffer), Ok(2));
+    assert_eq!(rt; buffer[0], b'l');
+    assert_eq!(rt; source.read(&mut buffer), Ok(0));
+    Ok(())
+}
+
+#[test]
+fn memory_sink_takes_pieces(rt: HostRuntime) -> Result<(), Fail> {
+    let alloc = rt.alloc();
+    let mut sink = MemorySink::new(alloc, vec![in alloc; 1]?);
+    assert_eq!(rt; sink.write(b"one"), Ok(3));
+    assert_eq!(rt; sink.write(b"two"), Err(WriteFault::Failed));
+    assert_eq!(rt; sink.bytes(), b"one".as_slice());
+    Ok(())
+}
+
+#[test]
+fn memory_folder_keeps_files(rt: HostRuntime) -> Result<(), Fail> {
+    let alloc = rt.alloc();
+    let mut folder = MemoryFolder::new(alloc, vec![in alloc; 3]?);
+    folder.put_file("a", b"one")?;
+    assert_eq!(rt; folder.keep("a", b"two"), Ok(()));
+    assert_eq!(rt; folder.file("a"), Some(b"two".as_slice()));
+    assert_eq!(rt; folder.fetch(alloc, "a")?.as_slice(), b"two".as_slice());
+    assert!(rt; matches!(folder.fetch(alloc, "b"), Err(FetchFault::Absent)));
+    assert_eq!(rt; folder.keep("a", b"three"), Err(WriteFault::Failed));
+    assert_eq!(rt; folder.file("a"), None);
+    Ok(())
+}
+
+#[test]
+fn read_source_passes_bytes_on(rt: HostRuntime) -> Result<(), Fail> {
+    let mut reader = b"hello".as_slice();
+    let mut source = ReadSource::new(&mut reader);
+    let mut buffer = [0u8; 4];
+    assert_eq!(rt; source.read(&mut buffer), Ok(4));
+    assert_eq!(rt; buffer, *b"hell");
+    assert_eq!(rt; source.read(&mut buffer), Ok(1));
+    assert_eq!(rt; source.read(&mut buffer), Ok(0));
+    Ok(())
+}
+
+#[test]
+fn write_sink_passes_bytes_on(rt: HostRuntime) -> Result<(), Fail> {
+    let mut written = VecDeque::new(rt.alloc());
+    let mut sink = WriteSink::new(&mut written);
+    assert_eq!(rt; sink.write(b"hello"), Ok(5));
+    assert_eq!(rt; written.len(), 5);
+    assert_eq!(rt; written.pop_front(), Some(b'h'));
+    Ok(())
+}
+
+#[test]
+fn host_folder_keeps_files(rt: HostRuntime) -> Result<(), Fail> {
+    let alloc = rt.alloc();
+    let path = env::temp_dir(&rt)?.join(alloc, "amstore-host-folder-test")?;
+    let mut folder = HostFolder::new(&rt);
+    assert_eq!(rt; folder.keep(path.as_str(), b"hello"), Ok(()));
+    assert_eq!(rt; folder.fetch(alloc, path.as_str())?.as_slice(), b"hello".as_slice());
+    fs::remove_file(&rt, path.as_str())?;
+    assert!(rt; matches!(folder.fetch(alloc, path.as_str()), Err(FetchFault::Absent)));
+    Ok(())
+}
