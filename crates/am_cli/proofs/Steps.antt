@@ -1,11 +1,11 @@
 -- A run goes on by one command.
-use Rattle.std.proofs.Common.{◌≡◌, ℕ, zero, suc, get_or, ◌+◌, ◌<◌, List, [], ◌∷◌, ◌++◌, length, drop, Bool, true, false, cond, ◌||◌, ◌&&◌, Option, refl, sym, ap, subst, ◌∙◌, arith, append_assoc}
-use Rattle.std.specs.Prelude.{count_by}
+use Rattle.std.proofs.Common.{◌≡◌, ℕ, zero, suc, get_or, ◌+◌, ◌<◌, ◌≤◌, List, [], ◌∷◌, ◌++◌, length, drop, Bool, true, false, cond, ◌||◌, ◌&&◌, Option, refl, sym, ap, subst, ◌∙◌, arith, append_assoc}
+use Rattle.std.specs.Prelude.{IsTrue, count_by}
 use Rattle.std.specs.List.{concat, list_any}
 use Rattle.std.proofs.lemmas.List.Folds.{list_any-append}
 use Rattle.std.specs.Io.KnownBytes.{append_known}
 use Rattle.std.proofs.lemmas.Grind.{common_steps}
-use Rattle.am_outside.specs.Counts.{RoseBy}
+use Rattle.am_outside.specs.Counts.{Rose, RoseBy}
 use Rattle.am_cli.specs.Script.{Asked}
 use Rattle.am_cli.specs.Machine.{State, Answers, Runs, left_after, is_absent, is_refused}
 use Rattle.am_cli.specs.Carried.{Carried}
@@ -34,6 +34,13 @@ rose-more m n a b c p q = omega arith
 
 pub absent-more : (replies : List (List ℕ)) (reply : List ℕ) (a b c : ℕ) → RoseBy (count_by is_absent replies) a b → RoseBy (count_by is_absent (reply ∷ [])) b c → RoseBy (count_by is_absent (replies ++ reply ∷ [])) a c
 absent-more replies reply a b c so_far more = subst (λ n. RoseBy n a c) (sym (count-more is_absent replies reply)) (rose-more _ _ a b c so_far more)
+
+-- a count that rose at a reply that says absent, and never falls, rose by the number of such replies
+pub one_absent : (reply : List ℕ) (a b : ℕ) → (IsTrue (is_absent reply) → Rose a b) → a ≤ b → RoseBy (count_by is_absent (reply ∷ [])) a b
+one_absent reply a b rose le = elim (is_absent reply) as (λ t. is_absent reply ≡ t → RoseBy (count_by is_absent (reply ∷ [])) a b) [
+  | true ↦ λ e. let one : count_by is_absent (reply ∷ []) ≡ 1 = grind (arith, common_steps, e) in rw one (rose e)
+  | false ↦ λ e. let none : count_by is_absent (reply ∷ []) ≡ 0 = grind (arith, common_steps, e) in rw none (omega arith)
+] refl
 
 pub carried-more : (stops : Bool) (asked : List Asked) (replies : List (List ℕ)) (one : Asked) (rest more left : List Asked) (reply : List ℕ) (s t u : State) (v w x : Option (List ℕ)) (a b c : ℕ) → rest ≡ one ∷ more →
     Carried stops asked replies rest s t v w a b → Answers t one reply u → RoseBy (count_by is_absent (reply ∷ [])) b c → x ≡ append_known w reply → left_after stops reply more ≡ left →

@@ -18,16 +18,27 @@ use Rattle.am_cli.specs.declared.run.Status.TheVariants as status
 abbrev pub LONGEST : ℕ
 LONGEST = 16777216
 
+-- an input, as far as it can be seen: the bytes that are left, where it tells them, and how many were taken
+pub record Input : Type 0 where
+  pub left : Option (List ℕ)
+  pub taken : ℕ
+
+-- a folder and an output, as far as they can be seen
+pub record Outside : Type 0 where
+  pub files : Option Files
+  pub misses : ℕ
+  pub written : Option (List ℕ)
+
 -- the whole input was taken, and it is this script
-pub record IsWhole (script : List ℕ) (left_before left_after : Option (List ℕ)) (taken_before taken_after : ℕ) : Type 0 where
-  pub told : IfSome left_before (λ all. all ≡ script)
-  pub end : IsAtEnd left_after
+pub record IsWhole (script : List ℕ) (before after : Input) : Type 0 where
+  pub told : IfSome before.left (λ all. all ≡ script)
+  pub end : IsAtEnd after.left
   pub within : length script ≤ LONGEST
-  pub taken : taken_after ≡ raised taken_before (length script)
+  pub taken : after.taken ≡ raised before.taken (length script)
 
 -- what a plan asks for; one reads it in the input
-abbrev pub Asks : Plan → List Asked → Option (List ℕ) → Option (List ℕ) → ℕ → ℕ → Type 0
-Asks ReadInput asked left_before left_after taken_before taken_after = (script : List ℕ) × IsWhole script left_before left_after taken_before taken_after × (asked ≡ all_asked script)
+abbrev pub Asks : Plan → List Asked → Input → Input → Type 0
+Asks ReadInput asked before after = (script : List ℕ) × IsWhole script before after × (asked ≡ all_asked script)
 
 -- each command was carried out, and this says whether a reply refuses
 abbrev pub some_is_refused : Status → Option Bool
@@ -62,18 +73,25 @@ IsBefore status.FileFault = ⊥
 IsBefore status.OutputFault = ⊥
 IsBefore status.NoMemory = ⊥
 
--- the state in which a run begins
-abbrev pub first_state : Option Files → State
-first_state files = state files
-
--- each command was carried out from the first state, and its reply written whole
-pub record Finished (stops : Bool) (asked : List Asked) (refused : Bool) (old new : Option Files) (before after : Option (List ℕ)) (misses_before misses_after : ℕ) : Type 0 where
+-- each command was carried out, and its reply written whole
+pub record Finished (stops : Bool) (asked : List Asked) (refused : Bool) (before after : Outside) : Type 0 where
   pub replies : List (List ℕ)
   pub end : State
-  pub carried : Carried stops asked replies [] (first_state old) end before after misses_before misses_after
-  pub files : new ≡ end.files
+  pub carried : Carried stops asked replies [] (state before.files) end before.written after.written before.misses after.misses
+  pub files : after.files ≡ end.files
   pub refuses : refused ≡ list_any is_refused replies
 
--- the run ended within the commands, which began in the first state
-abbrev pub Broken : Bool → List Asked → Halt → Option Files → Option Files → Option (List ℕ) → Option (List ℕ) → ℕ → ℕ → Type 0
-Broken stops asked halt old new before after misses_before misses_after = Stopped stops asked halt (first_state old) new before after misses_before misses_after
+-- the run ended within the commands
+abbrev pub Broken : Bool → List Asked → Halt → Outside → Outside → Type 0
+Broken stops asked halt before after = Stopped stops asked halt (state before.files) after.files before.written after.written before.misses after.misses
+
+-- the exit status, a number for each way in which a run may end
+abbrev pub exit_status : Status → ℕ
+exit_status status.Done = 0
+exit_status status.SomeRefused = 1
+exit_status status.BadWords = 2
+exit_status status.InputFault = 3
+exit_status status.FileFault = 4
+exit_status status.OutputFault = 5
+exit_status status.NoMemory = 6
+exit_status status.InputLong = 7

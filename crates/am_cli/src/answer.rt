@@ -1,6 +1,6 @@
 //! One command: its reply, and what it does.
-ghost use Rattle.std.specs.Prelude.{◌≡◌, ◌≤◌, ◌∷◌, [], count_by, IfOk, IsErrOf, IsTrue};
-ghost use Rattle.am_outside.specs.Counts.{Rose, RoseBy};
+ghost use Rattle.std.specs.Prelude.{◌≡◌, ◌≤◌, IfOk, IsErrOf, IsTrue};
+ghost use Rattle.am_outside.specs.Counts.{Rose};
 ghost use Rattle.am_cli.specs.Machine.{Answers, state, refused, is_absent, names_file, kept_file};
 ghost use Rattle.am_cli.specs.Ends.{FilesStay};
 
@@ -17,15 +17,14 @@ fn refusal(alloc: Global, why: &str) -> Result<Text, AllocError>
     Ok(Text::from(format!(in alloc; "refused {why}\n")?))
 }
 
-/// The reply to what a line asks for. A command that keeps a file must make its reply before it does, so that
-/// memory is never wanting afterwards.
+/// The reply to what a line asks for.
 pub fn answer<F: Folder>(
     alloc: Global,
     asked: &Result<Command, LineFault>,
     files: &mut F,
 ) -> Result<Text, Stop>
     ensures step { IfOk result (λ reply. Answers (state (F.files files.old)) asked.now reply (state (F.files files.new))) }
-    ensures absent { IfOk result (λ reply. RoseBy (count_by is_absent (reply ∷ [])) (F.misses files.old) (F.misses files.new)) }
+    ensures absent { IfOk result (λ reply. IsTrue (is_absent reply) → Rose (F.misses files.old) (F.misses files.new)) }
     ensures misses { F.misses files.old ≤ F.misses files.new }
     ensures faults { F.faults files.old ≤ F.faults files.new }
 

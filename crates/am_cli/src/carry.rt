@@ -1,5 +1,5 @@
 //! The commands carried out, one after another.
-ghost use Rattle.std.specs.Prelude.{◌≡◌, ◌≤◌, ◌&&◌, ℕ, List, [], Bool, Some, IfOk, IfErr, IsErrOf};
+ghost use Rattle.std.specs.Prelude.{◌≡◌, ◌≤◌, ◌&&◌, ℕ, List, [], length, Bool, Some, IfOk, IfErr, IsErrOf};
 ghost use Rattle.std.specs.List.{list_any};
 ghost use Rattle.am_outside.specs.Counts.{Rose};
 ghost use Rattle.am_outside.specs.Files.{Files};
@@ -11,6 +11,7 @@ use crate::answer::answer;
 use crate::command::{Command, LineFault};
 use crate::halt::Halt;
 use crate::output::write_whole;
+use am_frame::one_reading;
 use am_outside::{Folder, Sink};
 use std::alloc::Global;
 
@@ -28,8 +29,8 @@ fn ends_at(stops: bool, reply: &str) -> bool
     stops && refuses(reply)
 }
 
-/// Carries out the commands in order, and writes each reply whole before the next command begins. Where `stops`
-/// is true, nothing is done after a reply that refuses. Says whether a reply refuses.
+/// Carries out the commands one by one; no command is begun while a byte of the last reply is unwritten. Where `stops`
+/// is true, a reply that refuses is the last. Says whether a reply refuses.
 pub fn carry_out<F: Folder, O: Sink>(
     alloc: Global,
     stops: bool,
@@ -57,8 +58,14 @@ pub fn carry_out<F: Folder, O: Sink>(
     Ok(some_refused)
 }
 
-/// Where files are told, the machine gives one list of replies to the same commands, and goes on to one state.
+/// Where files are told, the machine gives one list of replies to the same commands, and goes on to one state; and so it
+/// does up to each place.
 pub fn one_run()
-    ensures { (stops : Bool) (files : Files) (asked : List Asked) (replies others : List (List ℕ)) (end other : State)
+    ensures whole { (stops : Bool) (files : Files) (asked : List Asked) (replies others : List (List ℕ)) (end other : State)
         → Runs stops (state (Some files)) asked replies end [] → Runs stops (state (Some files)) asked others other [] → (replies ≡ others) × (end ≡ other) }
-{}
+    ensures front { (stops : Bool) (files : Files) (asked : List Asked) (replies others : List (List ℕ)) (end other : State) (left more : List Asked)
+        → Runs stops (state (Some files)) asked replies end left → Runs stops (state (Some files)) asked others other more → length replies ≡ length others
+        → (replies ≡ others) × (end ≡ other) × (left ≡ more) }
+{
+    one_reading();
+}

@@ -20,7 +20,7 @@ pub enum Unread {
     /// The input is longer than a script may be.
     #[error("the script is too long")]
     Long,
-    /// Memory was wanting.
+    /// Out of memory.
     #[error("no memory")]
     NoMemory,
 }
@@ -60,7 +60,7 @@ fn read_piece<I: Source>(
     ensures bound { I.taken input.new ≤ I.taken input.old + length buffer.old }
     ensures faults { I.faults input.old ≤ I.faults input.new }
     ensures failed { IsErrOf result Unread.Failed → Rose (I.faults input.old) (I.faults input.new) }
-    ensures short { IsErrOf result Unread.Long → ⊥ }
+    ensures never_long { IsErrOf result Unread.Long → ⊥ }
 {
     let count = input.read(buffer)?;
     let (piece, _) = buffer.split_at(count);
@@ -71,7 +71,7 @@ fn read_piece<I: Source>(
 /// The whole input, where it isn't too long.
 #[tactic(auto, using(crate::proofs::Source::left_start, crate::proofs::Source::left_more, crate::proofs::Source::rose_more, crate::proofs::Source::all_read, crate::proofs::Source::longer, crate::proofs::Source::counted_more, crate::proofs::Source::counted_end))]
 pub fn read_all<I: Source>(alloc: Global, input: &mut I) -> Result<Vec<u8>, Unread>
-    ensures whole { IfOk result (λ script. IsWhole script.items (I.left input.old) (I.left input.new) (I.taken input.old) (I.taken input.new)) }
+    ensures whole { IfOk result (λ script. IsWhole script.items (record { left = I.left input.old; taken = I.taken input.old }) (record { left = I.left input.new; taken = I.taken input.new })) }
     ensures bound { I.taken input.new ≤ I.taken input.old + (LONGEST + 1) }
     ensures faults { I.faults input.old ≤ I.faults input.new }
     ensures failed { IsErrOf result Unread.Failed → Rose (I.faults input.old) (I.faults input.new) }

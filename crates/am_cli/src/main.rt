@@ -40,5 +40,5 @@ fn main(rt: HostRuntime) -> ExitCode {
         // A word isn't UTF-8, so the words have no plan.
         Err(_) => Status::BadWords,
     };
-    ExitCode::from(status as u8)
+    ExitCode::from(status.number())
 }

@@ -5,7 +5,7 @@ ghost use Rattle.am_outside.specs.Counts.{Rose};
 
 use am_outside::{Sink, WriteFault};
 
-/// Writes a reply as one piece, and then what is left of it until all is taken.
+/// Hands the whole reply to the output, then the rest of it, and so on, until nothing is left.
 pub fn write_whole<O: Sink>(out: &mut O, reply: &[u8]) -> Result<(), WriteFault>
     ensures whole { OnOk result (O.written out.new ≡ append_known (O.written out.old) reply.now) }
     ensures cut { OnErr result ((n : ℕ) × (n < length reply.now) × (O.written out.new ≡ append_known (O.written out.old) (take n reply.now))) }

@@ -16,7 +16,8 @@ use am_outside::{Folder, Sink, Source};
 use am_types::Text;
 use std::alloc::Global;
 
-/// How a run ended. The number of the variant is the exit status of the program.
+/// How a run ended. After `FileFault`, `OutputFault` and `NoMemory` some first commands of the script were carried out,
+/// and none after them was begun.
 #[derive(Clone, Copy, Debug, PartialEq, Eq)]
 pub enum Status {
     /// All commands were carried out, all replies written, and none refuses.
@@ -27,14 +28,35 @@ pub enum Status {
     BadWords,
     /// The input failed. Nothing was written or kept.
     InputFault,
-    /// The folder failed at a command.
+    /// The folder failed at the next command. All replies so far are written; the file that this command keeps, if it
+    /// keeps one, may hold anything.
     FileFault,
-    /// The output failed at a reply.
+    /// The output failed at the last of the replies, of which a front part may be written.
     OutputFault,
-    /// Memory was wanting.
+    /// Out of memory. Of the last of the replies a front part may be all that is written.
     NoMemory,
     /// The script is longer than 16,777,216 bytes. Nothing was written or kept.
     InputLong,
+}
+
+impl Status {
+    ghost use Rattle.am_cli.specs.Top.{exit_status};
+
+    /// The exit status of the program.
+    pub fn number(self) -> u8
+        ensures exit { result ≡ exit_status self }
+    {
+        match self {
+            Status::Done => 0,
+            Status::SomeRefused => 1,
+            Status::BadWords => 2,
+            Status::InputFault => 3,
+            Status::FileFault => 4,
+            Status::OutputFault => 5,
+            Status::NoMemory => 6,
+            Status::InputLong => 7,
+        }
+    }
 }
 
 // Carries out commands from the first state.
@@ -45,8 +67,10 @@ fn carry_all<F: Folder, O: Sink>(
     files: &mut F,
     out: &mut O,
 ) -> Status
-    ensures done { (refused : Bool) → some_is_refused result ≡ Some refused → Finished stops asked.now refused (F.files files.old) (F.files files.new) (O.written out.old) (O.written out.new) (F.misses files.old) (F.misses files.new) }
-    ensures stopped { IfSome (halt_of result) (λ halt. Broken stops asked.now halt (F.files files.old) (F.files files.new) (O.written out.old) (O.written out.new) (F.misses files.old) (F.misses files.new)) }
+    ensures done { (refused : Bool) → some_is_refused result ≡ Some refused → Finished stops asked.now refused
+        (record { files = F.files files.old; misses = F.misses files.old; written = O.written out.old }) (record { files = F.files files.new; misses = F.misses files.new; written = O.written out.new }) }
+    ensures stopped { IfSome (halt_of result) (λ halt. Broken stops asked.now halt
+        (record { files = F.files files.old; misses = F.misses files.old; written = O.written out.old }) (record { files = F.files files.new; misses = F.misses files.new; written = O.written out.new })) }
     ensures within { IsBefore result → ⊥ }
     ensures file { result ≡ Status.FileFault → Rose (F.faults files.old) (F.faults files.new) }
     ensures output { result ≡ Status.OutputFault → Rose (O.faults out.old) (O.faults out.new) }
@@ -67,7 +91,7 @@ fn asked_of_input<I: Source>(
     alloc: Global,
     input: &mut I,
 ) -> Result<Vec<Result<Command, LineFault>>, Unread>
-    ensures asks { IfOk result (λ asked. Asks Plan.ReadInput asked.items (I.left input.old) (I.left input.new) (I.taken input.old) (I.taken input.new)) }
+    ensures asks { IfOk result (λ asked. Asks Plan.ReadInput asked.items (record { left = I.left input.old; taken = I.taken input.old }) (record { left = I.left input.new; taken = I.taken input.new })) }
     ensures bound { I.taken input.new ≤ I.taken input.old + (LONGEST + 1) }
     ensures failed { IsErrOf result Unread.Failed → Rose (I.faults input.old) (I.faults input.new) }
     ensures long { IsErrOf result Unread.Long → RoseBy (LONGEST + 1) (I.taken input.old) (I.taken input.new) }
@@ -88,14 +112,16 @@ pub fn run<I: Source, F: Folder, O: Sink>(
 ) -> Status
     // Every command was carried out and every reply written, and a reply refuses exactly at SomeRefused.
     ensures done { (refused : Bool) → some_is_refused result ≡ Some refused → (plan : Plan) × (asked : List Asked)
-        × (plan_of words.now ≡ Some plan) × Asks plan asked (I.left input.old) (I.left input.new) (I.taken input.old) (I.taken input.new)
-        × Finished (stops_of plan) asked refused (F.files files.old) (F.files files.new) (O.written out.old) (O.written out.new) (F.misses files.old) (F.misses files.new) }
+        × (plan_of words.now ≡ Some plan) × Asks plan asked (record { left = I.left input.old; taken = I.taken input.old }) (record { left = I.left input.new; taken = I.taken input.new })
+        × Finished (stops_of plan) asked refused
+        (record { files = F.files files.old; misses = F.misses files.old; written = O.written out.old }) (record { files = F.files files.new; misses = F.misses files.new; written = O.written out.new }) }
     // A fault came within the commands, or memory was wanting before the first of them and nothing was done.
     ensures stopped { IfSome (halt_of result) (λ halt.
         ((halt ≡ Halt.NoMemory) × (out.new ≡ out.old) × (files.new ≡ files.old))
         ⊎ ((plan : Plan) × (asked : List Asked)
-        × (plan_of words.now ≡ Some plan) × Asks plan asked (I.left input.old) (I.left input.new) (I.taken input.old) (I.taken input.new)
-        × Broken (stops_of plan) asked halt (F.files files.old) (F.files files.new) (O.written out.old) (O.written out.new) (F.misses files.old) (F.misses files.new))) }
+        × (plan_of words.now ≡ Some plan) × Asks plan asked (record { left = I.left input.old; taken = I.taken input.old }) (record { left = I.left input.new; taken = I.taken input.new })
+        × Broken (stops_of plan) asked halt
+        (record { files = F.files files.old; misses = F.misses files.old; written = O.written out.old }) (record { files = F.files files.new; misses = F.misses files.new; written = O.written out.new }))) }
     ensures unwritten { IsBefore result → out.new ≡ out.old }
     ensures unkept { IsBefore result → files.new ≡ files.old }
 

@@ -38,7 +38,10 @@ fn refuses_what_is_no_chunk(rt: HostRuntime) -> Result<(), Fail> {
         if place < bytes.len() {
             bytes[place] = byte;
         }
-        assert!(rt; matches!(next_frame(&bytes), Err(FrameFault::BadFrame)), "at {place}");
+        assert!(rt;
+            matches!(next_frame(&bytes), Err(FrameFault::BadFrame)),
+            "at {place}"
+        );
     }
     assert!(rt; matches!(next_frame(&[]), Err(FrameFault::BadFrame)));
     Ok(())

@@ -17,7 +17,7 @@ pub enum WriteFault {
     /// The output or the folder failed.
     #[error("the write failed")]
     Failed,
-    /// Memory was wanting.
+    /// Out of memory.
     #[error("no memory")]
     NoMemory,
 }
@@ -31,7 +31,7 @@ pub enum FetchFault {
     /// The folder failed.
     #[error("the read failed")]
     Failed,
-    /// Memory was wanting.
+    /// Out of memory.
     #[error("no memory")]
     NoMemory,
 }

@@ -13,8 +13,8 @@ use std::rt::Files;
 /// The longest file that is read, in bytes.
 const LONGEST: u64 = 4_294_967_296;
 
-/// Files by their paths from the folder in which the program runs. It tells no content. A file that isn't there
-/// counts as a miss; each other error of the system counts as a fault, and so does a file longer than 2^32 bytes.
+/// Files by their paths, which start at the working directory. It tells no content. A path where the system finds
+/// nothing is a miss; every other error of the system is a fault, and a file of more than 2^32 bytes is one too.
 #[derive(Drop)]
 pub struct HostFolder<'a, R: Files> {
     rt: &'a R,
@@ -83,21 +83,25 @@ impl<'a, R: Files> Folder for HostFolder<'a, R> {
     }
 }
 
-// How many bytes the system says that a file has, up to the longest that is read.
-fn expected_len<F: OpenFile>(file: &F) -> usize {
+// How many bytes the system says that a file has.
+fn expected_len<F: OpenFile>(file: &F) -> u64 {
     match file.metadata() {
-        Ok(metadata) => metadata.len().min(LONGEST) as usize,
+        Ok(metadata) => metadata.len(),
         Err(_) => 0,
     }
 }
 
 // The bytes up to the end, or None where a read fails or they are too many. The room for them is taken at once, so
-// that no half of a large file is copied as it grows.
+// that a large file isn't copied as its buffer grows.
 fn read_whole<F: OpenFile + Read + Drop>(
     alloc: Global,
     file: F,
 ) -> Result<Option<Vec<u8>>, AllocError> {
-    let mut bytes = Vec::with_capacity(alloc, expected_len(&file))?;
+    let expected = expected_len(&file);
+    if expected > LONGEST {
+        return Ok(None);
+    }
+    let mut bytes = Vec::with_capacity(alloc, expected as usize)?;
     match file.take(LONGEST + 1).read_to_end(&mut bytes) {
         Ok(_) if bytes.len() as u64 <= LONGEST => Ok(Some(bytes)),
         Ok(_) => Ok(None),

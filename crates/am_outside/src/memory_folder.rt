@@ -18,8 +18,8 @@ struct File {
     bytes: Vec<u8>,
 }
 
-/// Files by their names. The calls of fetch and keep are numbered together, from 0, and those whose numbers stand
-/// in a list fail. A keep that fails removes the file.
+/// Files by their names, fetched and kept by calls of which some fail. Both kinds of calls share one count. A keep that
+/// fails removes the file.
 #[derive(Drop)]
 pub struct MemoryFolder {
     alloc: Global,
@@ -69,7 +69,7 @@ fn remove_file(files: &mut VecDeque<File>, name: &str)
 }
 
 impl MemoryFolder {
-    /// No files yet. The calls whose numbers, from 0, are in `failing` will fail.
+    /// No files yet. `failing` lists the calls that fail; the first call has the number 0.
     pub fn new(alloc: Global, failing: Vec<u64>) -> Self
         ensures files { ⟦<MemoryFolder as Folder>⟧.files result ≡ Some empty }
         ensures misses { ⟦<MemoryFolder as Folder>⟧.misses result ≡ 0 }
@@ -86,7 +86,7 @@ impl MemoryFolder {
         }
     }
 
-    /// Puts a file under this name, in place of one that is there. It counts as no call and never fails.
+    /// Puts a file under this name, in place of one that is there. It counts as no call; only memory may be wanting.
     pub fn put_file(&mut self, name: &str, bytes: &[u8]) -> Result<(), AllocError>
         ensures ok { OnOk result (⟦<MemoryFolder as Folder>⟧.files self.new ≡ option_map (λ all. insert all name.now bytes.now) (⟦<MemoryFolder as Folder>⟧.files self.old)) }
         ensures err { OnErr result (⟦<MemoryFolder as Folder>⟧.files self.new ≡ ⟦<MemoryFolder as Folder>⟧.files self.old) }
@@ -97,7 +97,7 @@ impl MemoryFolder {
         put_first(self.alloc, &mut self.files, name, bytes)
     }
 
-    /// The bytes of a file, or None exactly where no such file is there.
+    /// The bytes of the file of this name, where there is one.
     pub fn file(&self, name: &str) -> Option<&[u8]>
         ensures { Stands (⟦<MemoryFolder as Folder>⟧.files self.now) name.now (option_map (λ bytes. bytes.now) result) }
     {

@@ -6,7 +6,7 @@ use crate::faults::WriteFault;
 use crate::sink::Sink;
 use std::alloc::Global;
 
-/// Takes each piece whole. The calls whose numbers, from 0, stand in a list fail.
+/// Takes each piece whole, by calls of which some fail.
 #[derive(Drop)]
 pub struct MemorySink {
     bytes: Vec<u8>,
@@ -16,7 +16,7 @@ pub struct MemorySink {
 }
 
 impl MemorySink {
-    /// Nothing is written yet. The calls whose numbers, from 0, are in `failing` will fail.
+    /// Nothing is written yet. `failing` lists the calls that fail; the first call has the number 0.
     pub fn new(alloc: Global, failing: Vec<u64>) -> Self
         ensures written { ⟦<MemorySink as Sink>⟧.written result ≡ Some [] }
         ensures faults { ⟦<MemorySink as Sink>⟧.faults result ≡ 0 }

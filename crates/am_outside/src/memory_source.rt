@@ -18,7 +18,7 @@ fn copy_front(from: &[u8], to: &mut [u8], most: usize) -> usize
     count
 }
 
-/// Bytes that are given in pieces of bounded length. The calls whose numbers, from 0, stand in a list fail.
+/// Bytes that are given in pieces of bounded length, by calls of which some fail.
 #[derive(Drop)]
 pub struct MemorySource {
     bytes: Vec<u8>,
@@ -33,7 +33,7 @@ pub struct MemorySource {
 }
 
 impl MemorySource {
-    /// Gives at most `most` bytes a call, and fails the calls whose numbers, from 0, are in `failing`.
+    /// A call gets no more than `most` bytes. `failing` lists the calls that fail; the first call has the number 0.
     pub fn new(bytes: Vec<u8>, most: usize, failing: Vec<u64>) -> Self
         requires { 1 ≤ most }
         ensures left { ⟦<MemorySource as Source>⟧.left result ≡ Some bytes.items }

@@ -23,7 +23,8 @@ pub trait Source {
     ghost calls: { Self → Option Calls };
 
     /// Moves the next bytes into the front of the buffer, and says how many: 0 only at the end, or into a buffer
-    /// that is empty. A call that fails takes nothing from the input.
+    /// that is empty. What stands in the buffer behind them is open. A call that fails takes nothing from the input,
+    /// and leaves the whole buffer open.
     fn read(&mut self, buffer: &mut [u8]) -> Result<usize, Failed>
         ensures bound { ReadsAtMost result buffer.new }
         ensures bytes { IfOk result (λ n. left self.old ≡ prepend_known (take n buffer.new) (left self.new)) }

@@ -5,6 +5,7 @@ use crate::{
 };
 use std::collections::VecDeque;
 use std::test::Fail;
+use std::time::SystemTime;
 use std::{env, fs};
 
 #[test]
@@ -69,10 +70,18 @@ fn write_sink_passes_bytes_on(rt: HostRuntime) -> Result<(), Fail> {
 #[test]
 fn host_folder_keeps_files(rt: HostRuntime) -> Result<(), Fail> {
     let alloc = rt.alloc();
-    let path = env::temp_dir(&rt)?.join(alloc, "amstore-host-folder-test")?;
+    // A name that no test run beside this one has.
+    let now = SystemTime::now(&rt)?
+        .duration_since(SystemTime::UNIX_EPOCH)?
+        .as_nanos();
+    let name = format!(in alloc; "amstore-host-folder-{now}")?;
+    let path = env::temp_dir(&rt)?.join(alloc, name.as_str())?;
     let mut folder = HostFolder::new(&rt);
     assert_eq!(rt; folder.keep(path.as_str(), b"hello"), Ok(()));
-    assert_eq!(rt; folder.fetch(alloc, path.as_str())?.as_slice(), b"hello".as_slice());
+    assert_eq!(rt;
+        folder.fetch(alloc, path.as_str())?.as_slice(),
+        b"hello".as_slice()
+    );
     fs::remove_file(&rt, path.as_str())?;
     assert!(rt; matches!(folder.fetch(alloc, path.as_str()), Err(FetchFault::Absent)));
     Ok(())

@@ -13,7 +13,8 @@ const A1: [u8; 42] = [
 ];
 
 /// Its line in a listing.
-const A1_LINE: &str = "change 32 d99aa04d2627b06462ea181e063a2e07e16255c088d1fe97ecf9c964cfa6ce32\n";
+const A1_LINE: &str =
+    "change 32 d99aa04d2627b06462ea181e063a2e07e16255c088d1fe97ecf9c964cfa6ce32\n";
 
 fn words(alloc: Global, all: &[&str]) -> Result<Vec<Text>, AllocError> {
     let mut words = Vec::new(alloc);
@@ -50,8 +51,16 @@ fn replies_to_each_line(rt: HostRuntime) -> Result<(), Fail> {
         ("", "", Status::Done),
         ("frames empty\n", "ok 0\n", Status::Done),
         ("frames nosuch\n", "refused absent\n", Status::SomeRefused),
-        ("frames cut\n", "refused bad-frame chunk 1\n", Status::SomeRefused),
-        ("frames twice\n", "refused bad-frame chunk 2\n", Status::SomeRefused),
+        (
+            "frames cut\n",
+            "refused bad-frame chunk 1\n",
+            Status::SomeRefused,
+        ),
+        (
+            "frames twice\n",
+            "refused bad-frame chunk 2\n",
+            Status::SomeRefused,
+        ),
         ("x\n", "refused syntax\n", Status::SomeRefused),
         ("frames \n", "refused syntax\n", Status::SomeRefused),
         ("frames  A1\n", "refused syntax\n", Status::SomeRefused),
@@ -60,7 +69,13 @@ fn replies_to_each_line(rt: HostRuntime) -> Result<(), Fail> {
         let mut files = folder(alloc, Vec::new(alloc))?;
         let mut input = MemorySource::new(script.as_bytes().to_vec(alloc)?, 3, Vec::new(alloc));
         let mut out = MemorySink::new(alloc, Vec::new(alloc));
-        let ended = run(alloc, &words(alloc, &["run"])?, &mut input, &mut files, &mut out);
+        let ended = run(
+            alloc,
+            &words(alloc, &["run"])?,
+            &mut input,
+            &mut files,
+            &mut out,
+        );
         assert_eq!(rt; ended, status, "at {script}");
         assert_eq!(rt; out.bytes(), replies.as_bytes(), "at {script}");
     }
@@ -82,7 +97,13 @@ fn ends_at_the_first_fault(rt: HostRuntime) -> Result<(), Fail> {
         let script = b"frames empty\nframes nosuch\n".to_vec(alloc)?;
         let mut input = MemorySource::new(script, 100, vec![in alloc; read]?);
         let mut out = MemorySink::new(alloc, vec![in alloc; write]?);
-        let ended = run(alloc, &words(alloc, &["run"])?, &mut input, &mut files, &mut out);
+        let ended = run(
+            alloc,
+            &words(alloc, &["run"])?,
+            &mut input,
+            &mut files,
+            &mut out,
+        );
         assert_eq!(rt; ended, status);
         assert_eq!(rt; out.bytes(), replies.as_bytes());
     }

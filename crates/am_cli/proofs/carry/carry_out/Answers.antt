@@ -2,7 +2,7 @@ use Rattle.std.proofs.Common.{◌≡◌, ◌<◌, ◌&&◌, ◌∙◌, ap, sym, 
 use Rattle.std.proofs.lemmas.Result.{err_from_is_err_and}
 use Rattle.std.specs.Io.KnownBytes.{append_known}
 use Rattle.am_cli.specs.Machine.{is_refused}
-use Rattle.am_cli.proofs.Steps.{carried-more, any-more, drop_next, goes_on, stops_here}
+use Rattle.am_cli.proofs.Steps.{carried-more, any-more, drop_next, goes_on, stops_here, one_absent}
 use Rattle.am_cli.proofs.Stops.{stopped-command, stopped-reply}
 use Rattle.am_cli.proofs.carry.carry_out.Goals as goal
 
@@ -27,7 +27,7 @@ returns-in_err-write_whole-clause-stopped g c =
     let lt : i < length asked = omega arith in
     let same : c.as_bytes.result.now ≡ c.in_ok-reply.reply = search rules in
     let next : drop i asked ≡ one ∷ drop (i + 1) asked = drop_next asked i one lt ∙ ap (λ o. o ∷ drop (i + 1) asked) (sym c.one-item.is) in
-    rw p.1 (stopped-reply _ asked so_far.0 _ _ _ _ _ _ _ _ _ one (drop i asked) _ c.in_ok-reply.reply c.write_whole.result c.in_err-write_whole.field-0.0 p.0 next c.in_err-write_whole.was p.2 so_far.1 c.in_ok-reply.ensures.step c.in_ok-reply.ensures.absent (rw (← same) c.write_whole.ensures.cut))
+    rw p.1 (stopped-reply _ asked so_far.0 _ _ _ _ _ _ _ _ _ one (drop i asked) _ c.in_ok-reply.reply c.write_whole.result c.in_err-write_whole.field-0.0 p.0 next c.in_err-write_whole.was p.2 so_far.1 c.in_ok-reply.ensures.step (one_absent c.in_ok-reply.reply _ _ c.in_ok-reply.ensures.absent c.answer.ensures.misses) (rw (← same) c.write_whole.ensures.cut))
 
 pub returns-then-ends_at-clause-carried : goal.returns-then-ends_at-clause-carried
 returns-then-ends_at-clause-carried g c =
@@ -43,7 +43,7 @@ returns-then-ends_at-clause-carried g c =
     let refuses : c.refuses-some_refused.result ≡ is_refused reply = search rules in
     let ends : c.ends_at.result ≡ (c.args.stops && is_refused reply) = search rules in (
       so_far.0 ++ reply ∷ [],
-      carried-more _ asked so_far.0 one (drop i asked) (drop (i + 1) asked) [] reply _ _ _ _ _ _ _ _ _ next so_far.1 c.in_ok-reply.ensures.step c.in_ok-reply.ensures.absent wrote (stops_here _ reply (drop (i + 1) asked) c.ends_at.result ends c.if-ends_at.true),
+      carried-more _ asked so_far.0 one (drop i asked) (drop (i + 1) asked) [] reply _ _ _ _ _ _ _ _ _ next so_far.1 c.in_ok-reply.ensures.step (one_absent c.in_ok-reply.reply _ _ c.in_ok-reply.ensures.absent c.answer.ensures.misses) wrote (stops_here _ reply (drop (i + 1) asked) c.ends_at.result ends c.if-ends_at.true),
       any-more is_refused so_far.0 reply _ _ so_far.2 refuses,
     )
 
@@ -63,7 +63,7 @@ loop-one-preserved g c =
     record {
       carried = (
         so_far.0 ++ reply ∷ [],
-        carried-more _ asked so_far.0 one (drop i asked) (drop (i + 1) asked) (drop (i + 1) asked) reply _ _ _ _ _ _ _ _ _ next so_far.1 c.in_ok-reply.ensures.step c.in_ok-reply.ensures.absent wrote (goes_on _ reply (drop (i + 1) asked) c.ends_at.result ends c.if-ends_at.false),
+        carried-more _ asked so_far.0 one (drop i asked) (drop (i + 1) asked) (drop (i + 1) asked) reply _ _ _ _ _ _ _ _ _ next so_far.1 c.in_ok-reply.ensures.step (one_absent c.in_ok-reply.reply _ _ c.in_ok-reply.ensures.absent c.answer.ensures.misses) wrote (goes_on _ reply (drop (i + 1) asked) c.ends_at.result ends c.if-ends_at.false),
         any-more is_refused so_far.0 reply _ _ so_far.2 refuses,
       );
       file_faults = omega arith;
