@@ -116,4 +116,4 @@ depth_counts C v m c =
     ∙ depth_counts_in L (listed L v.in_turn) v.in_turn m (Contains-permutation C L m v.same c)
     ∙ (λ i. largest (map (λ d. same d.change i + 1) (dependencies L m.change)))
     ∙ largest-permutation (map below (dependencies C m.change)) (map below (dependencies L m.change))
-      (IsPermutation-map below (dependencies C m.change) (dependencies L m.change) (IsPermutation-filter (λ d. among hash_cmp m.change.deps d.hash) C L v.same))
+    (IsPermutation-map below (dependencies C m.change) (dependencies L m.change) (IsPermutation-filter (λ d. among hash_cmp m.change.deps d.hash) C L v.same))

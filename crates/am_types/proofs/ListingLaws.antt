@@ -34,7 +34,7 @@ heads-permutation C D p =
     let headed = λ (E : List Member) (g : Hash). not (is_dependency E g) in
     ap (sorted_by hash_cmp) (filter_agree (headed D) (headed C) (λ g. ap not (sym (list_any-IsPermutation (λ (m : Member). among hash_cmp m.change.deps g) C D p))) (hashes D))
     ∙ sorted_by-permutation hash_total (λ _. Unit {0}) (λ x y _ _ e. hash_exact x y e) (filter (headed C) (hashes C)) (filter (headed C) (hashes D)) (λ k d l. tt)
-      (IsPermutation-filter (headed C) (hashes C) (hashes D) (IsPermutation-map (λ (m : Member). m.hash) C D p))
+    (IsPermutation-filter (headed C) (hashes C) (hashes D) (IsPermutation-map (λ (m : Member). m.hash) C D p))
 
 -- ---- the canonical order
 
@@ -76,7 +76,7 @@ order-permutation C D facts p =
 used_actors-permutation : (C D : List Member) → IsPermutation C D → used_actors D ≡ used_actors C
 used_actors-permutation C D p =
     ap (dedup same_bytes) (sorted_by-permutation nat_list_cmp_total (λ _. Unit {0}) (λ x y _ _ e. exact_bytes x y e) (actors C) (actors D) (λ k d l. tt)
-      (IsPermutation-flat_map (λ (m : Member). m.change.actor ∷ flat_map op_actors m.change.ops) C D p))
+    (IsPermutation-flat_map (λ (m : Member). m.change.actor ∷ flat_map op_actors m.change.ops) C D p))
 
 -- the operations are the same, in another order
 pub operations-permutation : (C D : List Member) → IsPermutation C D → IsPermutation (all_operations (changes C)) (all_operations (changes D))

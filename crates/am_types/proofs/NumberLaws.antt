@@ -48,8 +48,8 @@ unfolding unsigned_of
 unsigned_is_shortest bytes n are = (
   go (first_unsigned bytes) (unsigned.found bytes (byte_at bytes are)),
   λ h. let is : bytes ≡ uleb n = IsUleb-is_uleb h.1 in
-  let read : first_unsigned bytes ≡ Ok (n, length (uleb n)) = unsigned.only bytes n [] h.0 (is ∙ sym (append-nil (uleb n))) in
-  ap (if_whole bytes) (read ∙ ap (λ l. Ok (n, length l)) (sym is)) ∙ whole_from bytes n,
+      let read : first_unsigned bytes ≡ Ok (n, length (uleb n)) = unsigned.only bytes n [] h.0 (is ∙ sym (append-nil (uleb n))) in
+      ap (if_whole bytes) (read ∙ ap (λ l. Ok (n, length l)) (sym is)) ∙ whole_from bytes n,
 )
   where
     go : (r : Result (ℕ × ℕ) LebFault) → unsigned.Found bytes r → if_whole bytes r ≡ Some n → (n < 2 ^ 64) × IsUleb bytes n
@@ -64,8 +64,8 @@ unfolding signed_of
 signed_is_shortest bytes n are = (
   go (first_signed bytes) (signed.found bytes (byte_at bytes are)),
   λ h. let is : bytes ≡ leb n = IsLeb-is_leb bytes n h.1 in
-  let read : first_signed bytes ≡ Ok (n, length (leb n)) = signed.only bytes n [] h.0 (is ∙ sym (append-nil (leb n))) in
-  ap (if_whole bytes) (read ∙ ap (λ l. Ok (n, length l)) (sym is)) ∙ whole_from bytes n,
+      let read : first_signed bytes ≡ Ok (n, length (leb n)) = signed.only bytes n [] h.0 (is ∙ sym (append-nil (leb n))) in
+      ap (if_whole bytes) (read ∙ ap (λ l. Ok (n, length l)) (sym is)) ∙ whole_from bytes n,
 )
   where
     go : (r : Result (ℤ × ℕ) LebFault) → signed.Found bytes r → if_whole bytes r ≡ Some n → FitsSigned w64 n × IsLeb bytes n

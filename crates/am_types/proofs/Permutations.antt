@@ -18,8 +18,8 @@ module _ {X Y : Type 0} (f : X → List Y) where
       let below : j < length l = omega arith in
       IsPermutation-trans _ (f y ++ (f x ++ flat_map f l)) _ (exchanged (f x) (f y) (flat_map f l))
       (IsPermutation-trans _ (f y ++ (f (get_or l j d) ++ flat_map f (set l j x))) _
-        (IsPermutation-append_right (f y) _ _ (put_for l j x d below))
-        (exchanged (f y) (f (get_or l j d)) (flat_map f (set l j x))))
+      (IsPermutation-append_right (f y) _ _ (put_for l j x d below))
+      (exchanged (f y) (f (get_or l j d)) (flat_map f (set l j x))))
 
   swapped_by : (l : List X) (i j : ℕ) (d : X) → i < length l → j < length l → IsPermutation (flat_map f l) (flat_map f (set (set l i (get_or l j d)) j (get_or l i d)))
   swapped_by [] i j d hi hj = absurd (omega arith)
