@@ -15,7 +15,8 @@ use Rattle.am_types.proofs.Ancestry.{Contains-filter, Contains-from_filter}
 use Rattle.am_types.proofs.Listed.{same_bytes-true}
 use Rattle.am_types.proofs.DistinctIds.{ancestors_trans, earlier, later_starts_above, operation_of}
 use Rattle.am_types.specs.Clocks.{covers}
-use Rattle.am_types.proofs.Lists.{same_answers, Contains-head, Contains-tail}
+use Rattle.am_types.proofs.Growth.{same_answers}
+use Rattle.am_types.proofs.Lists.{Contains-head, Contains-tail}
 use Rattle.am_types.specs.Elements.{HasReference, part, RespectsReferences}
 use Rattle.am_types.proofs.Grounds.{Grounds, Placed, placed, counter_bounds}
 

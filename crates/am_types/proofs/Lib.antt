@@ -14,7 +14,6 @@ pub mod Counters
 pub mod Listed
 pub mod DistinctIds
 pub mod SameLaws
-pub mod HeldReads
 pub mod Lists
 pub mod Permutations
 pub mod Parts
@@ -31,3 +30,4 @@ pub mod TextSamples
 pub mod CounterSamples
 pub mod DeliverySamples
 pub mod NoteSamples
+pub mod ValidSample

@@ -40,10 +40,7 @@ module _ {N : Type 0} (bytes : List ℕ) (n : N) where
 fault_found : {N : Type 0} (bytes : List ℕ) (n : N) (fault : LebFault) → if_whole bytes (Err fault) ≡ Some n → ⊥
 fault_found bytes n fault e = cc
 
-abbrev pub UnsignedIsShortest : Type 0
-UnsignedIsShortest = (bytes : List ℕ) (n : ℕ) → IsBytes bytes → (unsigned_of bytes ≡ Some n) ↔ ((n < 2 ^ 64) × IsUleb bytes n)
-
-pub unsigned_is_shortest : UnsignedIsShortest
+pub unsigned_is_shortest : (bytes : List ℕ) (n : ℕ) → IsBytes bytes → (unsigned_of bytes ≡ Some n) ↔ ((n < 2 ^ 64) × IsUleb bytes n)
 unfolding unsigned_of
 unsigned_is_shortest bytes n are = (
   go (first_unsigned bytes) (unsigned.found bytes (byte_at bytes are)),
@@ -56,10 +53,7 @@ unsigned_is_shortest bytes n are = (
     go (Err fault) f e = absurd (fault_found bytes n fault e)
     go (Ok p) f e = whole_found bytes n (λ s m. (m < 2 ^ 64) × IsUleb s m) p.0 p.1 (f.0, f.2) e
 
-abbrev pub SignedIsShortest : Type 0
-SignedIsShortest = (bytes : List ℕ) (n : ℤ) → IsBytes bytes → (signed_of bytes ≡ Some n) ↔ (FitsSigned w64 n × IsLeb bytes n)
-
-pub signed_is_shortest : SignedIsShortest
+pub signed_is_shortest : (bytes : List ℕ) (n : ℤ) → IsBytes bytes → (signed_of bytes ≡ Some n) ↔ (FitsSigned w64 n × IsLeb bytes n)
 unfolding signed_of
 signed_is_shortest bytes n are = (
   go (first_signed bytes) (signed.found bytes (byte_at bytes are)),

@@ -177,3 +177,16 @@ fn lends_what_it_has(rt: HostRuntime) -> Result<(), Fail> {
     assert_eq!(rt; entry.value.raw, b"\x0a".as_slice());
     Ok(())
 }
+
+#[test]
+fn takes_over_what_is_owned(rt: HostRuntime) -> Result<(), Fail> {
+    let alloc = rt.alloc();
+    let numbers = List::from(vec![in alloc; 1u64, 2, 3]?);
+    assert_eq!(rt; numbers.len(), 3);
+    let three = Bytes::from(vec![in alloc; 1u8, 2, 3]?);
+    assert_eq!(rt; three, bytes(alloc, &[1, 2, 3])?);
+    let word = Text::from(format!(in alloc; "{}", "word")?);
+    assert_eq!(rt; word, text(alloc, "word")?);
+    assert_eq!(rt; (three.len(), word.len()), (3, 4));
+    Ok(())
+}
