@@ -163,18 +163,21 @@ fn copies_equal_what_they_copy(rt: HostRuntime) -> Result<(), Fail> {
 #[test]
 fn lends_what_it_has(rt: HostRuntime) -> Result<(), Fail> {
     let document = document(rt.alloc())?;
-    let entry = document.entry(0);
-    match (entry.obj, entry.slot) {
-        (ObjRef::Made(obj), KeyRef::Elem(slot)) => {
-            assert_eq!(rt; obj.counter, 1);
-            assert_eq!(rt; obj.actor, b"\xaa".as_slice());
-            assert_eq!(rt; slot.counter, 2);
+    assert_eq!(rt; document.entries.len(), 1);
+    for i in 0..document.entries.len() {
+        let entry = document.entry(i);
+        match (entry.obj, entry.slot) {
+            (ObjRef::Made(obj), KeyRef::Elem(slot)) => {
+                assert_eq!(rt; obj.counter, 1);
+                assert_eq!(rt; obj.actor, b"\xaa".as_slice());
+                assert_eq!(rt; slot.counter, 2);
+            }
+            _ => assert!(rt; false, "another place"),
         }
-        _ => assert!(rt; false, "another place"),
+        assert_eq!(rt; entry.id.counter, 3);
+        assert_eq!(rt; (entry.action, entry.value.kind, entry.total), (1, 8, 10));
+        assert_eq!(rt; entry.value.raw, b"\x0a".as_slice());
     }
-    assert_eq!(rt; entry.id.counter, 3);
-    assert_eq!(rt; (entry.action, entry.value.kind, entry.total), (1, 8, 10));
-    assert_eq!(rt; entry.value.raw, b"\x0a".as_slice());
     Ok(())
 }
 
