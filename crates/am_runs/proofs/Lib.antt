@@ -14,3 +14,5 @@ pub mod Finishing
 pub mod ItemIs
 pub mod LikeEntries
 pub mod Spelled
+pub mod Sights
+pub mod Onward

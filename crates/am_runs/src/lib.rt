@@ -4,6 +4,7 @@
 mod cursor;
 mod fault;
 mod item;
+mod judge;
 mod likeness;
 mod pending;
 mod place;
@@ -20,6 +21,7 @@ pub use fault::BadRun;
 pub use item::{
     Item, SignedItem, TextItem, UnsignedItem, signed_items, text_items, unsigned_items,
 };
+pub use judge::is_canonical;
 pub use signed::SignedCursor;
 pub use text::TextCursor;
 pub use unsigned::UnsignedCursor;
