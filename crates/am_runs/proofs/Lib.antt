@@ -16,3 +16,4 @@ pub mod LikeEntries
 pub mod Spelled
 pub mod Sights
 pub mod Onward
+pub mod Spellings
