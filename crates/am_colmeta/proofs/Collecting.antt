@@ -18,9 +18,10 @@ pushed false listed next bytes after more rest specification old f v h a e g =
     let above : IsAbove specification (cut listed bytes) = subst (λ o. IfSome o (IsAbove specification)) (sym v) a in
     let size : total next ≡ length after = omega (arith, ap total e, total-push listed specification (length more), ap length g, length-append bytes more, h.0) in
     let both : cut next after ≡ cut listed bytes ++ (specification, more) ∷ [] = ap (λ l. cut l after) e ∙ ap (cut (listed ++ (specification, length more) ∷ [])) g ∙ cut-push listed bytes more specification h.0 in
-    let P : Option (List (ℕ × List ℕ)) → Type 0 = λ o. IfSome o (λ columns. ◌≡◌ {A = Option (List (ℕ × List ℕ))} (Some (cut next after)) (Some (columns ++ (specification, more) ∷ []))) in
-    ((size, subst Ascend (sym e) (Ascend-push listed bytes specification (length more) h.1 above), h.2),
-     subst P v (ap Some both))
+    let P : Option (List (ℕ × List ℕ)) → Type 0 = λ o. IfSome o (λ columns. ◌≡◌ {A = Option (List (ℕ × List ℕ))} (Some (cut next after)) (Some (columns ++ (specification, more) ∷ []))) in (
+      (size, subst Ascend (sym e) (Ascend-push listed bytes specification (length more) h.1 above), h.2),
+      subst P v (ap Some both),
+    )
 
 AscendFrom-lower : (before first : ℕ) (listed : List (ℕ × ℕ)) → before < first → AscendFrom first listed → AscendFrom before listed
 AscendFrom-lower before first [] b h = tt
@@ -55,7 +56,7 @@ finished false listed lent bytes before written columns f v h l e =
     subst P v (record {
       metadata_are = e ∙ ap (λ z. before ++ uleb (count_by has_length z) ++ flat_map entry_bytes z) l ∙ metadata_written listed bytes before h.0 h.2;
       body_are = sym (body-cut listed bytes h.0) ∙ sym (body-not_empty (cut listed bytes));
-      ascending = Ascend-not_empty (cut listed bytes) (subst Ascend (sym (listing-cut listed bytes (omega (arith, h.0)))) h.1)
+      ascending = Ascend-not_empty (cut listed bytes) (subst Ascend (sym (listing-cut listed bytes (omega (arith, h.0)))) h.1);
     })
 
 pub if_some : {A : Type 0} {P Q : A → Type 0} (o : Option A) → ((x : A) → P x → Q x) → IfSome o P → IfSome o Q

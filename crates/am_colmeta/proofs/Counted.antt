@@ -46,9 +46,9 @@ parts_found first bytes_of IsGood back zero bytes rest all e = (cc, tt)
 parts_found {A = A} first bytes_of IsGood back (suc n) bytes rest all e = elim (first bytes) as (λ o. first bytes ≡ o → go_on (behind first n) o ≡ Some rest → (bytes ≡ flat_map bytes_of (read_on (parts first n) o) ++ rest) × AllByRecursion IsGood (read_on (parts first n) o)) [
   | None ↦ λ q g. absurd (cc)
   | Some x ↦ λ q g.
-    let w = back.found bytes x.0 x.1 all q in
-    let more = parts_found first bytes_of IsGood back n x.1 rest (IsBytes-behind (bytes_of x.0) x.1 (subst IsBytes w.1 all)) g in
-    (w.1 ∙ ap (λ l. bytes_of x.0 ++ l) more.0 ∙ sym (append_assoc (bytes_of x.0) (flat_map bytes_of (parts first n x.1)) rest), (w.0, more.1))
+      let w = back.found bytes x.0 x.1 all q in
+      let more = parts_found first bytes_of IsGood back n x.1 rest (IsBytes-behind (bytes_of x.0) x.1 (subst IsBytes w.1 all)) g in
+      (w.1 ∙ ap (λ l. bytes_of x.0 ++ l) more.0 ∙ sym (append_assoc (bytes_of x.0) (flat_map bytes_of (parts first n x.1)) rest), (w.0, more.1))
 ] refl e
 
 pub parts_again : {A : Type 0} (first : List ℕ → Option (A × List ℕ)) (bytes_of : A → List ℕ) (IsGood : A → Type 0) → ReadsBack first bytes_of IsGood → (list : List A) (rest : List ℕ) → AllByRecursion IsGood list

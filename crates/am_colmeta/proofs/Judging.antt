@@ -63,8 +63,8 @@ found_from : (columns : List (ℕ × List ℕ)) (before specification : ℕ) →
 found_from [] before specification h = refl
 found_from ((s, []) ∷ columns) before specification h =
     elim (nat_eq s specification) as (λ b. nat_eq s specification ≡ b → column_at (not_empty columns) specification ≡ cond b [] (column_at columns specification)) [
-    | true ↦ λ t. not_listed columns s specification h.1 (grind (arith, nat_tests))
-    | false ↦ λ t. found_from columns s specification h.1
+      | true ↦ λ t. not_listed columns s specification h.1 (grind (arith, nat_tests))
+      | false ↦ λ t. found_from columns s specification h.1
     ] refl
 found_from ((s, (byte ∷ bytes)) ∷ columns) before specification h =
     ap (λ l. cond (nat_eq s specification) (byte ∷ bytes) l) (found_from columns s specification h.1)
@@ -73,8 +73,8 @@ pub found_without_empty : (columns : List (ℕ × List ℕ)) (specification : �
 found_without_empty [] specification h = refl
 found_without_empty ((s, []) ∷ columns) specification h =
     elim (nat_eq s specification) as (λ b. nat_eq s specification ≡ b → column_at (not_empty columns) specification ≡ cond b [] (column_at columns specification)) [
-    | true ↦ λ t. not_listed columns s specification h (grind (arith, nat_tests))
-    | false ↦ λ t. found_from columns s specification h
+      | true ↦ λ t. not_listed columns s specification h (grind (arith, nat_tests))
+      | false ↦ λ t. found_from columns s specification h
     ] refl
 found_without_empty ((s, (byte ∷ bytes)) ∷ columns) specification h =
     ap (λ l. cond (nat_eq s specification) (byte ∷ bytes) l) (found_from columns s specification h)

@@ -18,11 +18,11 @@ number_found : (bytes : List ℕ) (n : ℕ) (rest : List ℕ) → IsBytes bytes 
 number_found bytes n rest all e = elim (first_unsigned bytes) as (λ o. first_unsigned bytes ≡ o → number_by bytes o ≡ Some (n, rest) → IsNumber n × (bytes ≡ uleb n ++ rest)) [
   | Err fault ↦ λ q g. absurd (cc)
   | Ok x ↦ λ q g.
-    let w = first_unsigned-front bytes x.0 x.1 all q in
-    let p : ◌≡◌ {A = ℕ × List ℕ} (x.0, drop x.1 bytes) (n, rest) = cc in
-    let number : x.0 ≡ n = ap (λ (y : ℕ × List ℕ). y.0) p in
-    let tail : drop x.1 bytes ≡ rest = ap (λ (y : ℕ × List ℕ). y.1) p in
-    (subst IsNumber number w.0, w.2 ∙ ap (λ m. uleb m ++ drop x.1 bytes) number ∙ ap (λ l. uleb n ++ l) tail)
+      let w = first_unsigned-front bytes x.0 x.1 all q in
+      let p : ◌≡◌ {A = ℕ × List ℕ} (x.0, drop x.1 bytes) (n, rest) = cc in
+      let number : x.0 ≡ n = ap (λ (y : ℕ × List ℕ). y.0) p in
+      let tail : drop x.1 bytes ≡ rest = ap (λ (y : ℕ × List ℕ). y.1) p in
+      (subst IsNumber number w.0, w.2 ∙ ap (λ m. uleb m ++ drop x.1 bytes) number ∙ ap (λ l. uleb n ++ l) tail)
 ] refl e
 
 number_again : (n : ℕ) (rest : List ℕ) → IsNumber n → first_number (uleb n ++ rest) ≡ Some (n, rest)
@@ -36,18 +36,19 @@ pair_found : (bytes : List ℕ) (pair : ℕ × ℕ) (rest : List ℕ) → IsByte
 pair_found bytes pair rest all e = elim (first_number bytes) as (λ o. first_number bytes ≡ o → pair_by o ≡ Some (pair, rest) → IsPair pair × (bytes ≡ pair_bytes pair ++ rest)) [
   | None ↦ λ q g. absurd (cc)
   | Some x ↦ λ q g.
-    let w = number_found bytes x.0 x.1 all q in
-    let inner = IsBytes-behind (uleb x.0) x.1 (subst IsBytes w.1 all) in
-    elim (first_number x.1) as (λ o. first_number x.1 ≡ o → with_length x.0 o ≡ Some (pair, rest) → IsPair pair × (bytes ≡ pair_bytes pair ++ rest)) [
-    | None ↦ λ r h. absurd (cc)
-    | Some y ↦ λ r h.
-      let v = number_found x.1 y.0 y.1 inner r in
-      let p : ◌≡◌ {A = (ℕ × ℕ) × List ℕ} ((x.0, y.0), y.1) (pair, rest) = cc in
-      let same : ◌≡◌ {A = ℕ × ℕ} (x.0, y.0) pair = ap (λ (z : (ℕ × ℕ) × List ℕ). z.0) p in
-      let tail : y.1 ≡ rest = ap (λ (z : (ℕ × ℕ) × List ℕ). z.1) p in
-      (subst IsPair same (w.0, v.0),
-       w.1 ∙ ap (λ l. uleb x.0 ++ l) v.1 ∙ sym (append_assoc (uleb x.0) (uleb y.0) y.1) ∙ ap (λ q. pair_bytes q ++ y.1) same ∙ ap (λ l. pair_bytes pair ++ l) tail)
-  ] refl g
+      let w = number_found bytes x.0 x.1 all q in
+      let inner = IsBytes-behind (uleb x.0) x.1 (subst IsBytes w.1 all) in
+      elim (first_number x.1) as (λ o. first_number x.1 ≡ o → with_length x.0 o ≡ Some (pair, rest) → IsPair pair × (bytes ≡ pair_bytes pair ++ rest)) [
+        | None ↦ λ r h. absurd (cc)
+        | Some y ↦ λ r h.
+            let v = number_found x.1 y.0 y.1 inner r in
+            let p : ◌≡◌ {A = (ℕ × ℕ) × List ℕ} ((x.0, y.0), y.1) (pair, rest) = cc in
+            let same : ◌≡◌ {A = ℕ × ℕ} (x.0, y.0) pair = ap (λ (z : (ℕ × ℕ) × List ℕ). z.0) p in
+            let tail : y.1 ≡ rest = ap (λ (z : (ℕ × ℕ) × List ℕ). z.1) p in (
+              subst IsPair same (w.0, v.0),
+              w.1 ∙ ap (λ l. uleb x.0 ++ l) v.1 ∙ sym (append_assoc (uleb x.0) (uleb y.0) y.1) ∙ ap (λ q. pair_bytes q ++ y.1) same ∙ ap (λ l. pair_bytes pair ++ l) tail,
+            )
+      ] refl g
 ] refl e
 
 pair_again : (pair : ℕ × ℕ) (rest : List ℕ) → IsPair pair → first_pair (pair_bytes pair ++ rest) ≡ Some (pair, rest)
@@ -63,24 +64,25 @@ prefixed_found : (bytes part rest : List ℕ) → IsBytes bytes → first_prefix
 prefixed_found bytes part rest all e = elim (first_number bytes) as (λ o. first_number bytes ≡ o → prefixed_by o ≡ Some (part, rest) → IsPrefixed part × (bytes ≡ prefixed part ++ rest)) [
   | None ↦ λ q g. absurd (cc)
   | Some x ↦ λ q g.
-    let w = number_found bytes x.0 x.1 all q in
-    elim (nat_le x.0 (length x.1)) as (λ b. nat_le x.0 (length x.1) ≡ b → ◌≡◌ {A = Option (List ℕ × List ℕ)} (cond b (Some (take x.0 x.1, drop x.0 x.1)) None) (Some (part, rest)) → IsPrefixed part × (bytes ≡ prefixed part ++ rest)) [
-    | false ↦ λ t h. absurd (cc)
-    | true ↦ λ t h.
-      let room : x.0 ≤ length x.1 = grind (arith, nat_tests) in
-      let p : ◌≡◌ {A = List ℕ × List ℕ} (take x.0 x.1, drop x.0 x.1) (part, rest) = cc in
-      let front : take x.0 x.1 ≡ part = ap (λ (z : List ℕ × List ℕ). z.0) p in
-      let tail : drop x.0 x.1 ≡ rest = ap (λ (z : List ℕ × List ℕ). z.1) p in
-      fits bytes x.0 x.1 part rest w.0 w.1 room front tail
-  ] refl g
+      let w = number_found bytes x.0 x.1 all q in
+      elim (nat_le x.0 (length x.1)) as (λ b. nat_le x.0 (length x.1) ≡ b → ◌≡◌ {A = Option (List ℕ × List ℕ)} (cond b (Some (take x.0 x.1, drop x.0 x.1)) None) (Some (part, rest)) → IsPrefixed part × (bytes ≡ prefixed part ++ rest)) [
+        | false ↦ λ t h. absurd (cc)
+        | true ↦ λ t h.
+            let room : x.0 ≤ length x.1 = grind (arith, nat_tests) in
+            let p : ◌≡◌ {A = List ℕ × List ℕ} (take x.0 x.1, drop x.0 x.1) (part, rest) = cc in
+            let front : take x.0 x.1 ≡ part = ap (λ (z : List ℕ × List ℕ). z.0) p in
+            let tail : drop x.0 x.1 ≡ rest = ap (λ (z : List ℕ × List ℕ). z.1) p in
+            fits bytes x.0 x.1 part rest w.0 w.1 room front tail
+      ] refl g
 ] refl e
   where
     fits : (bytes : List ℕ) (n : ℕ) (more part rest : List ℕ) → n < 2 ^ 64 → bytes ≡ uleb n ++ more → n ≤ length more → take n more ≡ part → drop n more ≡ rest → IsPrefixed part × (bytes ≡ prefixed part ++ rest)
     fits bytes n more part rest h e room front tail =
-      let size : n ≡ length part = sym (taken n more room) ∙ ap length front in
-      (omega arith,
-       e ∙ ap (λ l. uleb n ++ l) (sym (take-append-drop n more)) ∙ ap (λ l. uleb n ++ (l ++ drop n more)) front ∙ ap (λ l. uleb n ++ (part ++ l)) tail
-       ∙ ap (λ m. uleb m ++ (part ++ rest)) size ∙ sym (append_assoc (uleb (length part)) part rest))
+        let size : n ≡ length part = sym (taken n more room) ∙ ap length front in (
+          omega arith,
+          e ∙ ap (λ l. uleb n ++ l) (sym (take-append-drop n more)) ∙ ap (λ l. uleb n ++ (l ++ drop n more)) front ∙ ap (λ l. uleb n ++ (part ++ l)) tail
+              ∙ ap (λ m. uleb m ++ (part ++ rest)) size ∙ sym (append_assoc (uleb (length part)) part rest),
+        )
       where
         taken : (n : ℕ) (l : List ℕ) → n ≤ length l → length (take n l) ≡ n
         taken zero l h = refl
@@ -108,9 +110,11 @@ counted_found first bytes_of IsGood back bytes more rest n all e h =
     let inner = IsBytes-behind (uleb n) more (subst IsBytes w.1 all) in
     let v = parts_found first bytes_of IsGood back n more rest inner h in
     let some : IsSome (behind first n more) = ap is_there h in
-    let count : n ≡ length (parts first n more) = sym (length-parts first n more some) in
-    (w.1 ∙ ap (λ l. uleb n ++ l) v.0 ∙ sym (append_assoc (uleb n) (flat_map bytes_of (parts first n more)) rest) ∙ ap (λ m. (uleb m ++ flat_map bytes_of (parts first n more)) ++ rest) count,
-     subst (λ m. m < 2 ^ 64) count w.0, v.1)
+    let count : n ≡ length (parts first n more) = sym (length-parts first n more some) in (
+      w.1 ∙ ap (λ l. uleb n ++ l) v.0 ∙ sym (append_assoc (uleb n) (flat_map bytes_of (parts first n more)) rest) ∙ ap (λ m. (uleb m ++ flat_map bytes_of (parts first n more)) ++ rest) count,
+      subst (λ m. m < 2 ^ 64) count w.0,
+      v.1,
+    )
   where
     is_there : Option (List ℕ) → Bool
     is_there None = false
@@ -148,9 +152,10 @@ read_only first bytes_of IsGood back list bytes tail more rest n few good e f h 
     let number : n ≡ length list = ap (λ (z : ℕ × List ℕ). z.0) p in
     let behind_it : more ≡ flat_map bytes_of list ++ tail = ap (λ (z : ℕ × List ℕ). z.1) p in
     let same = ap (λ m. behind first m more) number ∙ ap (behind first (length list)) behind_it ∙ v.1 in
-    let last : rest ≡ tail = (let q : Some rest ≡ Some tail = h ∙ same in cc) in
-    (ap (λ m. parts first m more) number ∙ ap (parts first (length list)) behind_it ∙ v.2,
-     omega (arith, ap length e ∙ length-append (counted bytes_of list) tail, ap length last))
+    let last : rest ≡ tail = (let q : Some rest ≡ Some tail = h ∙ same in cc) in (
+      ap (λ m. parts first m more) number ∙ ap (parts first (length list)) behind_it ∙ v.2,
+      omega (arith, ap length e ∙ length-append (counted bytes_of list) tail, ap length last),
+    )
 
 pub no_number : {A : Type 0} (first : List ℕ → Option (A × List ℕ)) (bytes_of : A → List ℕ) (IsGood : A → Type 0) → ReadsBack first bytes_of IsGood → (list : List A) (bytes tail : List ℕ) → length list < 2 ^ 64 → AllByRecursion IsGood list → bytes ≡ counted bytes_of list ++ tail → None ≡ first_number bytes → ⊥
 no_number first bytes_of IsGood back list bytes tail few good e f =

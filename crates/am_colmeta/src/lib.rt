@@ -7,6 +7,8 @@ mod fault;
 mod laws;
 mod list;
 mod parts;
+#[cfg(test)]
+mod tests;
 mod writer;
 
 pub use actors::ActorList;
