@@ -1,10 +1,30 @@
 //! The plain data that all crates share, and the definitions of histories over it.
 #![tactic(auto)]
 
+mod actor;
 mod bytes;
+mod change;
+mod document;
 mod hash;
+mod ids;
+mod known;
+mod list;
+mod refs;
 mod text;
+mod twin;
+mod value;
+mod verdict;
 
+pub use actor::{ActorFault, ActorId};
 pub use bytes::Bytes;
+pub use change::{Change, Op};
+pub use document::{Document, Entry, Meta, Row, Table};
 pub use hash::Hash;
+pub use ids::{Key, ObjId, OpId};
+pub use known::{hash_known, hashes_known, slice_known, str_known};
+pub use list::List;
+pub use refs::{EntryRef, IdRef, KeyRef, ObjRef, ValueRef, compare_ids};
 pub use text::Text;
+pub use twin::Twin;
+pub use value::RawValue;
+pub use verdict::{Limit, Rejected, Verdict, Why};

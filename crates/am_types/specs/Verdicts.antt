@@ -1,0 +1,64 @@
+-- Whether a change fits a set.
+--     verdict C c     the first reason why c doesn't fit C, or Fits
+-- C is meant to be valid and to hold the dependencies of c but not c itself. The order of the reasons and the limits are
+-- choices of amstore's profile. The reasons, each with its answer where it applies; A are the ancestors of c in C:
+--     seq_clash C c         a member of C has the actor and the seq of c
+--     seq_gap A c           c isn't its actor's first, and the one before it isn't among its ancestors
+--     start_low A c         a dependency has an operation whose counter isn't below the start of c
+--     bad_reference A c     an operation of c names what isn't there
+--     full C c              with c, the set would pass a limit
+use Rattle.std.specs.Prelude.{ℕ, ◌-◌, ◌^◌, Bool, not, ◌&&◌, ◌==◌, nat_le, nat_lt, List, [], ◌∷◌, length, find, sum_by, Option, None, option_map, unwrap_or}
+use Rattle.std.specs.Option.{option_or}
+use Rattle.std.specs.Bool.{then_some}
+use Rattle.std.specs.List.{list_any}
+use Rattle.am_types.specs.Records.{Change, Limit, Changes, Operations, Preds, Links, Verdict, Fits, SeqClash, SeqGap, StartLow, BadReference, Full}
+use Rattle.am_types.specs.Order.{hash_cmp, same}
+use Rattle.am_types.specs.Same.{same_bytes}
+use Rattle.am_types.specs.Operations.{operations, all_operations, max}
+use Rattle.am_types.specs.Fine.{pred_count}
+use Rattle.am_types.specs.Members.{Member, changes}
+use Rattle.am_types.specs.Ancestors.{ancestors}
+use Rattle.am_types.specs.References.{first_bad}
+
+-- m has this actor and this seq
+abbrev pub has_seq : List ℕ → ℕ → Member → Bool
+has_seq actor seq m = same_bytes m.change.actor actor && m.change.seq == seq
+
+abbrev pub seq_clash : List Member → Change → Option Verdict
+seq_clash C c = option_map (λ m. SeqClash m.hash) (find (has_seq c.actor c.seq) C)
+
+abbrev pub seq_gap : List Member → Change → Option Verdict
+seq_gap A c = then_some (nat_lt 1 c.seq && not (list_any (has_seq c.actor (c.seq - 1)) A)) SeqGap
+
+-- the dependencies ascend, so the first is the least
+abbrev pub start_low : List Member → Change → Option Verdict
+start_low A c = option_map StartLow (find (λ h. list_any (λ m. same hash_cmp m.hash h && nat_le c.start (max m.change)) A) c.deps)
+
+abbrev pub bad_reference : List Member → Change → Option Verdict
+bad_reference A c = option_map BadReference (first_bad (all_operations (changes A)) (operations c))
+
+-- the answer of the first that has one
+abbrev pub first_some : {X : Type 0} → List (Option X) → Option X
+first_some [] = None
+first_some (o ∷ os) = option_or o (first_some os)
+
+-- the limit, where n is above it
+abbrev pub above : ℕ → ℕ → Limit → Option Limit
+above most n limit = then_some (nat_lt most n) limit
+
+-- the first limit that the changes of a set pass
+abbrev pub limit_passed : List Change → Option Limit
+limit_passed cs = first_some (
+    above (2 ^ 20) (length cs) Changes
+    ∷ above (2 ^ 22) (sum_by (λ c. length c.ops) cs) Operations
+    ∷ above (2 ^ 22) (sum_by (λ c. pred_count c.ops) cs) Preds
+    ∷ above (2 ^ 22) (sum_by (λ c. length c.deps) cs) Links
+    ∷ [])
+
+abbrev pub full : List Member → Change → Option Verdict
+full C c = option_map Full (limit_passed (c ∷ changes C))
+
+unfoldable pub verdict : List Member → Change → Verdict
+verdict C c =
+    let A : List Member = ancestors C c.deps in
+    unwrap_or (first_some (seq_clash C c ∷ seq_gap A c ∷ start_low A c ∷ bad_reference A c ∷ full C c ∷ [])) Fits

@@ -1,0 +1,82 @@
+//! Actors: those who make changes.
+ghost use Rattle.std.specs.Prelude.{◌≡◌, ◌<◌, ◌↔◌, ◌⊎◌, length, IfOk};
+ghost use Rattle.am_types.specs.Actors.{IsActor};
+
+use crate::bytes::Bytes;
+use crate::known::slice_known;
+use crate::twin::Twin;
+use std::alloc::{AllocError, Global};
+use std::marker::Model;
+use thiserror::Error;
+
+/// One who makes changes: 1 to 1,024 bytes, which a contract sees as their list. (Automerge Binary Document
+/// Format, "actor IDs"; the bounds are a choice of amstore's profile.)
+#[derive(Debug, Drop)]
+pub struct ActorId {
+    inner: Bytes,
+}
+
+impl Model for ActorId {
+    ghost use Rattle.std.specs.Prelude.{List, ℕ};
+    ghost use Rattle.am_types.specs.Actors.{IsActor};
+
+    ghost Value = { List ℕ };
+
+    ghost view = { λ a. a.inner };
+
+    ghost invariant = { λ a. IsActor a.inner };
+}
+
+/// Why no actor was made.
+#[derive(Clone, Copy, Debug, PartialEq, Eq, Error)]
+pub enum ActorFault {
+    /// There is no byte, or there are more than 1,024.
+    #[error("an actor has 1 to 1,024 bytes")]
+    Length,
+    /// The allocator had no memory.
+    #[error("there is no memory")]
+    NoMemory,
+}
+
+impl From<AllocError> for ActorFault {
+    ghost use Rattle.std.specs.Prelude.{◌≡◌};
+    ghost use Rattle.am_types.specs.declared.actor.ActorFault.TheVariants.{NoMemory};
+
+    ghost from_gives = { λ _ e. e ≡ NoMemory };
+
+    fn from(_error: AllocError) -> ActorFault {
+        ActorFault::NoMemory
+    }
+}
+
+impl ActorId {
+    /// The actor with these bytes.
+    pub fn of(alloc: Global, bytes: &[u8]) -> Result<ActorId, ActorFault>
+        ensures ok { IfOk result (λ actor. actor ≡ bytes.now) }
+        ensures allowed { IfOk result (λ actor. IsActor bytes.now) }
+        ensures length { (result ≡ Err ActorFault.Length) ↔ ((length bytes.now ≡ 0) ⊎ (1024 < length bytes.now)) }
+    {
+        slice_known(bytes);
+        if bytes.is_empty() || bytes.len() > 1024 {
+            return Err(ActorFault::Length);
+        }
+        let mut inner = Bytes::new(alloc);
+        inner.push_slice(bytes)?;
+        Ok(ActorId { inner })
+    }
+
+    /// The bytes of the actor.
+    pub fn as_slice(&self) -> &[u8]
+        ensures value { result.now ≡ self.now }
+        ensures allowed { IsActor self.now }
+    {
+        self.inner.as_slice()
+    }
+}
+
+impl Twin for ActorId {
+    fn copy(&self, alloc: Global) -> Result<ActorId, AllocError> {
+        let inner = self.inner.copy(alloc)?;
+        Ok(ActorId { inner })
+    }
+}

@@ -1,0 +1,51 @@
+//! Whether a change can join others, and why it was rejected.
+use crate::hash::Hash;
+
+/// A limit of a closed set. (A choice of amstore's profile.)
+#[derive(Clone, Copy, Debug, PartialEq, Eq)]
+pub enum Limit {
+    /// 2^20 changes.
+    Changes,
+    /// 2^22 operations in all.
+    Operations,
+    /// 2^22 predecessors in all.
+    Preds,
+    /// 2^22 dependencies in all.
+    Links,
+}
+
+/// Whether a change fits a valid set of changes, or the first reason why it doesn't.
+#[derive(Clone, Copy, Debug, PartialEq, Eq)]
+pub enum Verdict {
+    Fits,
+    /// The member with this hash has the same actor and seq.
+    SeqClash(Hash),
+    /// The actor's change before it is not among its ancestors.
+    SeqGap,
+    /// This dependency, the least such, has an operation whose counter is not below the change's start.
+    StartLow(Hash),
+    /// The operation at this place, the first such, names what is not there.
+    BadReference(u64),
+    /// This limit, the first such, would be passed.
+    Full(Limit),
+}
+
+/// Why a delivered change was rejected.
+#[derive(Clone, Copy, Debug, PartialEq, Eq)]
+pub enum Why {
+    /// Another change with the same hash is held.
+    HashClash,
+    /// The others as in [`Verdict`].
+    SeqClash(Hash),
+    SeqGap,
+    StartLow(Hash),
+    BadReference(u64),
+    Full(Limit),
+}
+
+/// A rejected change.
+#[derive(Clone, Copy, Debug, PartialEq, Eq)]
+pub struct Rejected {
+    pub hash: Hash,
+    pub why: Why,
+}
