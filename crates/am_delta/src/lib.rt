@@ -1,0 +1,13 @@
+//! Columns of deltas: runs of differences, each from the last value that is not null (Automerge Binary Document Format, delta encoding).
+#![tactic(auto)]
+
+mod arithmetic;
+mod between;
+mod cursor;
+mod fault;
+mod skipping;
+mod writer;
+
+pub use cursor::DeltaCursor;
+pub use fault::BadDelta;
+pub use writer::{DeltaWriter, one_canonical_spelling};

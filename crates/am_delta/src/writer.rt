@@ -1,0 +1,116 @@
+//! A writer of the one canonical spelling.
+ghost use Rattle.std.specs.Prelude.{◌≡◌, ◌<◌, ◌≤◌, ◌∷◌, [], ℕ, ℤ, List, Option, Some, None, length, ◌++◌, ◌^◌, IfOk, IfSome, IfNone, OnOk, OnErr, IsErr, ◌↔◌};
+ghost use Rattle.am_delta.specs.Deltas.{CanonDeltas, IsMiddling, less, or_last, AreMiddling, canonical_delta_bytes};
+ghost use Rattle.std.specs.Option.{option_map};
+ghost use Rattle.am_leb.specs.Leb.{leb};
+
+use am_leb::push_i;
+use am_runs::{RunWriter, SignedItem};
+use am_types::Bytes;
+use std::alloc::{AllocError, Global};
+use std::marker::Model;
+
+fn put(
+    differences: &mut RunWriter<SignedItem>,
+    item: &mut Vec<u8>,
+    difference: Option<i64>,
+) -> Result<(), AllocError>
+    requires { IfSome differences.old (λ list. length list < 2 ^ 32) }
+    ensures { OnOk result (IfSome differences.old (λ list. differences.new ≡ Some (list ++ option_map leb difference ∷ []))) }
+{
+    match difference {
+        None => differences.push(None),
+        Some(difference) => {
+            item.clear();
+            push_i(item, difference)?;
+            differences.push(Some(item.as_slice()))
+        }
+    }
+}
+
+fn difference_to(value: Option<i64>, last: i64) -> Option<i64>
+    requires value { IfSome value IsMiddling }
+    requires last { IsMiddling last }
+    ensures { result ≡ less value last }
+{
+    match value {
+        None => None,
+        Some(value) => Some(value - last),
+    }
+}
+
+fn value_or(value: Option<i64>, last: i64) -> i64
+    ensures { result ≡ or_last value last }
+{
+    match value {
+        None => last,
+        Some(value) => value,
+    }
+}
+
+/// Writes the values of a column as differences. Once memory was wanted, it is wanted from then on.
+#[derive(Drop)]
+pub struct DeltaWriter {
+    differences: RunWriter<SignedItem>,
+    item: Vec<u8>,
+    last: i64,
+    failed: bool,
+}
+
+impl Model for DeltaWriter {
+    ghost use Rattle.std.specs.Prelude.{ℤ, List, Option};
+
+    ghost Value = { Option (List (Option ℤ)) };
+
+    ghost use Rattle.am_delta.specs.Deltas.{values_written, IsSumming};
+
+    ghost view = { λ a. values_written a.failed a.differences };
+
+    ghost invariant = { λ a. IsSumming a.failed a.differences a.last };
+}
+
+impl DeltaWriter {
+    pub fn new(alloc: Global) -> Self
+        ensures { result ≡ Some [] }
+    {
+        DeltaWriter {
+            differences: RunWriter::new(alloc),
+            item: Vec::new(alloc),
+            last: 0,
+            failed: false,
+        }
+    }
+
+    pub fn push(&mut self, value: Option<i64>) -> Result<(), AllocError>
+        requires room { IfSome self.old (λ list. length list < 2 ^ 32) }
+        requires value { IfSome value IsMiddling }
+        ensures failed { IfNone self.old ((self.new ≡ None) × IsErr result) }
+        ensures ok { OnOk result (IfSome self.old (λ list. self.new ≡ Some (list ++ value ∷ []))) }
+        ensures err { OnErr result (self.new ≡ None) }
+    {
+        if self.failed {
+            return Err(AllocError);
+        }
+        self.failed = true;
+        let difference = difference_to(value, self.last);
+        put(&mut self.differences, &mut self.item, difference)?;
+        self.last = value_or(value, self.last);
+        self.failed = false;
+        Ok(())
+    }
+
+    pub fn finish(self) -> Result<Bytes, AllocError>
+        ensures failed { IfNone self (IsErr result) }
+        ensures ok { IfOk result (λ bytes. IfSome self (CanonDeltas bytes)) }
+    {
+        if self.failed {
+            return Err(AllocError);
+        }
+        self.differences.finish()
+    }
+}
+
+/// Each list of values above -2^62 and below 2^62 has exactly one canonical spelling.
+pub fn one_canonical_spelling()
+    ensures { (values : List (Option ℤ)) (bytes : List ℕ) → AreMiddling values → length values ≤ 2 ^ 32 → (CanonDeltas bytes values ↔ (bytes ≡ canonical_delta_bytes values)) }
+{}

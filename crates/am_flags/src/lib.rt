@@ -1,0 +1,12 @@
+//! Columns of flags: the lengths of blocks that are false and true by turns (Automerge Binary Document Format, boolean encoding).
+#![tactic(auto)]
+
+mod count;
+mod cursor;
+mod fault;
+mod place;
+mod writer;
+
+pub use cursor::{FlagCursor, one_list};
+pub use fault::BadFlags;
+pub use writer::{FlagWriter, one_canonical_maybe, one_canonical_spelling};

@@ -1,0 +1,16 @@
+pub mod Entries
+pub mod Opening
+pub mod Walks
+pub mod Unique
+pub mod RunsRead
+pub mod Grouping
+pub mod Jumping
+pub mod ItemsOf
+pub mod Existing
+pub mod Pushing
+pub mod Holding
+pub mod Arms
+pub mod Finishing
+pub mod ItemIs
+pub mod LikeEntries
+pub mod Spelled

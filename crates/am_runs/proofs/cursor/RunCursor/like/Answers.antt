@@ -1,0 +1,19 @@
+use Rattle.std.proofs.Common.{arith, sym, ap, ◌∙◌, ◌≤◌, take, length}
+use Rattle.std.proofs.lemmas.Grind.{common_steps}
+use Rattle.am_runs.proofs.Entries.{length-entries, never_ends, entries-none}
+use Rattle.am_runs.proofs.cursor.RunCursor.like.Goals as goal
+
+pub returns-then-self-eq0-clause-end : goal.returns-then-self-eq0-clause-end
+returns-then-self-eq0-clause-end g c = sym c.self.view_is ∙ entries-none _ _ _ c.if-self-eq0.true
+
+pub returns-in-None-clause-end : goal.returns-in-None-clause-end
+returns-in-None-clause-end g c = absurd (never_ends _ _ _ (omega arith) (sym c.in-None.ensures.none) c.self.invariant)
+
+pub returns-in-Some-clause-like : goal.returns-in-Some-clause-like
+returns-in-Some-clause-like g c =
+    let size = sym (length-entries _ _ _ c.self.invariant) ∙ ap length c.self.view_is in
+    let k = c.min.result in
+    let some : 1 ≤ k = grind (arith, common_steps) in
+    let least : k ≤ c.in-Some.k = grind (arith, common_steps) in
+    let within : k ≤ c.self.inside.left = grind (arith, common_steps) in
+    (some, omega (arith, size), ap (take k) (sym c.self.view_is) ∙ c.in-Some.ensures.found.1 k _ least within)

@@ -1,0 +1,123 @@
+//! A cursor over the items of a column. It takes no memory.
+ghost use Rattle.std.specs.Prelude.{◌≡◌, ◌<◌, ◌≤◌, ◌∷◌, [], ℕ, List, Option, length, take, drop, IfOk, IfSome, IfNone, OnErr, replicate};
+ghost use Rattle.std.specs.Option.{option_copied};
+ghost use Rattle.am_runs.specs.Runs.{JoinsRuns};
+
+use crate::fault::BadRun;
+use crate::item::Item;
+use crate::likeness::alike;
+use crate::place::{Kind, Position, stepped};
+use crate::run::run_at;
+use crate::skipping::skipped;
+use std::marker::{Model, PhantomData};
+
+/// The entries of a column, one after another.
+#[derive(Drop)]
+pub struct RunCursor<'a, K: Item> {
+    at: Position<'a>,
+    left: u64,
+    of: PhantomData<K>,
+}
+
+impl<'a, K: Item> Model for RunCursor<'a, K> {
+    ghost use Rattle.std.specs.Prelude.{ℕ, List, Option};
+
+    ghost Value = { List (Option (List ℕ)) };
+
+    ghost use Rattle.am_runs.specs.Walking.{entries, HasEntries};
+
+    ghost view = { λ a. entries K.end_of a.left (record { kind = a.at.kind; count = a.at.count; item = a.at.item.now; rest = a.at.rest.now }) };
+
+    ghost invariant = { λ a. HasEntries K.end_of a.left (record { kind = a.at.kind; count = a.at.count; item = a.at.item.now; rest = a.at.rest.now }) };
+}
+
+impl<'a, K: Item> RunCursor<'a, K> {
+    pub fn over(bytes: &'a [u8], most: u64) -> Result<Self, BadRun>
+        ensures ok { IfOk result (λ list. JoinsRuns K.end_of bytes.now list × (length list ≤ most)) }
+        ensures err { OnErr result ((list : List (Option (List ℕ))) → JoinsRuns K.end_of bytes.now list → most < length list) }
+    {
+        let mut rest = bytes;
+        let mut total = 0;
+        while !rest.is_empty() {
+            match run_at::<K>(rest, most - total) {
+                None => return Err(BadRun),
+                Some((count, behind)) => {
+                    total += count;
+                    rest = behind;
+                }
+            }
+        }
+        Ok(RunCursor {
+            at: Position {
+                kind: Kind::Nulls,
+                count: 0,
+                item: &bytes[..0],
+                rest: bytes,
+            },
+            left: total,
+            of: PhantomData,
+        })
+    }
+
+    pub fn left(&self) -> u64
+        ensures { result ≡ length self.now }
+    {
+        self.left
+    }
+
+    /// The same cursor again.
+    pub fn again(&self) -> Self
+        ensures { result ≡ self.now }
+    {
+        RunCursor {
+            at: self.at,
+            left: self.left,
+            of: PhantomData,
+        }
+    }
+
+    /// Leaves out the next n entries, or all where fewer are left.
+    pub fn skip(&mut self, n: u64)
+        ensures { self.new ≡ drop n self.old }
+    {
+        let (at, left) = skipped::<K>(self.at, self.left, n.min(self.left));
+        self.at = at;
+        self.left = left;
+    }
+
+    /// The next entry, and how often it comes next at least. It goes on by none.
+    pub fn like(&self) -> Option<(Option<&'a [u8]>, u64)>
+        ensures end { IfNone result (self.now ≡ []) }
+        ensures like { IfSome result (λ r. (1 ≤ r.1) × (r.1 ≤ length self.now) × (take r.1 self.now ≡ replicate r.1 (option_copied r.0))) }
+    {
+        if self.left == 0 {
+            return None;
+        }
+        match alike::<K>(self.at) {
+            None => None,
+            Some((entry, k)) => Some((entry, k.min(self.left))),
+        }
+    }
+
+    pub fn next(&mut self) -> Option<Option<&'a [u8]>>
+        ensures end { IfNone result ((self.old ≡ []) × (self.new ≡ [])) }
+        ensures next { IfSome result (λ entry. self.old ≡ option_copied entry ∷ self.new) }
+    {
+        if self.left == 0 {
+            return None;
+        }
+        match stepped::<K>(self.at) {
+            None => None,
+            Some((entry, at)) => {
+                self.at = at;
+                self.left -= 1;
+                Some(entry)
+            }
+        }
+    }
+}
+
+/// Bytes join the runs of one list at most.
+pub fn one_list<K: Item>()
+    ensures { (bytes : List ℕ) (xs ys : List (Option (List ℕ))) → JoinsRuns K.end_of bytes xs → JoinsRuns K.end_of bytes ys → xs ≡ ys }
+{}

@@ -1,0 +1,111 @@
+//! Kinds of items, each known by where its spellings end: numbers in their shortest LEB128, and texts behind their length.
+ghost use Rattle.std.specs.Prelude.{◌≡◌, ◌<◌, ◌≤◌, ◌^◌, ◌↔◌, ℕ, List, Option, length, IfSome, IsUtf8, FitsSigned, ℤ};
+ghost use Rattle.std.specs.Int.{w64};
+ghost use Rattle.std.specs.Str.{is_utf8};
+ghost use Rattle.am_leb.specs.Leb.{uleb, leb};
+ghost use Rattle.am_runs.specs.Items.{ReadsItems, IsItem, unsigned_end, signed_end, text_end, text_spelling};
+
+use am_leb::{read_i, read_u};
+use std::str::from_utf8;
+
+/// A kind of item, known by where its spellings end.
+pub trait Item {
+    /// The length of the item that begins the bytes.
+    ghost end_of: { List ℕ → Option ℕ };
+
+    fn end(bytes: &[u8]) -> Option<usize>
+        ensures exact { result ≡ end_of bytes.now }
+        ensures within { IfSome result (λ n. n ≤ length bytes.now) };
+
+    ghost reads: { ReadsItems end_of };
+}
+
+pub struct UnsignedItem;
+
+impl Item for UnsignedItem {
+    ghost use Rattle.am_runs.specs.Items.{unsigned_end};
+    ghost use Rattle.am_runs.specs.ItemLaws.{unsigned_reads};
+
+    ghost end_of = { unsigned_end };
+
+    ghost reads = { unsigned_reads };
+
+    fn end(bytes: &[u8]) -> Option<usize> {
+        match read_u(bytes) {
+            Ok((_, len)) => Some(len),
+            Err(_) => None,
+        }
+    }
+}
+
+pub struct SignedItem;
+
+impl Item for SignedItem {
+    ghost use Rattle.am_runs.specs.Items.{signed_end};
+    ghost use Rattle.am_runs.specs.ItemLaws.{signed_reads};
+
+    ghost end_of = { signed_end };
+
+    ghost reads = { signed_reads };
+
+    fn end(bytes: &[u8]) -> Option<usize> {
+        match read_i(bytes) {
+            Ok((_, len)) => Some(len),
+            Err(_) => None,
+        }
+    }
+}
+
+/// Whether the bytes are UTF-8.
+fn is_text(bytes: &[u8]) -> bool
+    ensures { result ≡ is_utf8 bytes.now }
+{
+    match from_utf8(bytes) {
+        Ok(_) => true,
+        Err(_) => false,
+    }
+}
+
+pub struct TextItem;
+
+impl Item for TextItem {
+    ghost use Rattle.am_runs.specs.Items.{text_end};
+    ghost use Rattle.am_runs.specs.ItemLaws.{text_reads};
+
+    ghost end_of = { text_end };
+
+    ghost reads = { text_reads };
+
+    fn end(bytes: &[u8]) -> Option<usize> {
+        match read_u(bytes) {
+            Err(_) => None,
+            Ok((n, len)) => {
+                let rest = &bytes[len..];
+                if n > rest.len() as u64 {
+                    return None;
+                }
+                let n = n as usize;
+                if is_text(&rest[..n]) {
+                    Some(len + n)
+                } else {
+                    None
+                }
+            }
+        }
+    }
+}
+
+/// An unsigned item is the shortest spelling of a number of 64 bits.
+pub fn unsigned_items(bytes: &[u8])
+    ensures { IsItem unsigned_end bytes.now ↔ ((n : ℕ) × (n < 2 ^ 64) × (bytes.now ≡ uleb n)) }
+{}
+
+/// A signed item is the shortest spelling of a signed number of 64 bits.
+pub fn signed_items(bytes: &[u8])
+    ensures { IsItem signed_end bytes.now ↔ ((z : ℤ) × FitsSigned w64 z × (bytes.now ≡ leb z)) }
+{}
+
+/// An item of text is its length and that much UTF-8.
+pub fn text_items(bytes: &[u8])
+    ensures { IsItem text_end bytes.now ↔ ((text : List ℕ) × IsUtf8 text × (length text < 2 ^ 64) × (bytes.now ≡ text_spelling text)) }
+{}

@@ -1,0 +1,26 @@
+//! Columns of runs: a list of items and nulls in runs, each a repeated item, a row of items, or nulls (Automerge Binary Document Format, run length encoding).
+#![tactic(auto)]
+
+mod cursor;
+mod fault;
+mod item;
+mod likeness;
+mod pending;
+mod place;
+mod run;
+mod signed;
+mod skipping;
+mod text;
+mod unsigned;
+mod value;
+mod writer;
+
+pub use cursor::{RunCursor, one_list};
+pub use fault::BadRun;
+pub use item::{
+    Item, SignedItem, TextItem, UnsignedItem, signed_items, text_items, unsigned_items,
+};
+pub use signed::SignedCursor;
+pub use text::TextCursor;
+pub use unsigned::UnsignedCursor;
+pub use writer::{RunWriter, one_canonical_spelling};

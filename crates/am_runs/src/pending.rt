@@ -1,0 +1,209 @@
+//! The run that a writer has not written yet.
+ghost use Rattle.std.specs.Prelude.{◌≡◌, ◌<◌, ◌^◌, ◌++◌, ◌∷◌, [], ◌↔◌, ℕ, List, Option, Some, None, length, IfOk, IfSome, OnOk, IsTrue};
+ghost use Rattle.std.specs.Option.{option_copied};
+ghost use Rattle.am_leb.specs.Leb.{leb};
+ghost use Rattle.am_leb.specs.Reading.{from_magnitude};
+ghost use Rattle.am_runs.specs.Items.{IsItem};
+ghost use Rattle.am_runs.specs.Canonical.{Canon};
+ghost use Rattle.am_runs.specs.Pending.{pending_bytes, Holds};
+
+use crate::item::Item;
+use am_leb::{push_i, push_u};
+use std::alloc::AllocError;
+
+#[derive(Clone, Copy, Debug, PartialEq, Eq)]
+pub enum PendingKind {
+    Nothing,
+    Nulls,
+    Repeat,
+    Literal,
+}
+
+#[derive(Drop)]
+pub struct Pending {
+    pub kind: PendingKind,
+    pub count: u64,
+    pub front: Vec<u8>,
+    pub last: Vec<u8>,
+}
+
+// A run's number: so many, or where it is of a literal run, less than minus so many by one.
+fn push_header(out: &mut Vec<u8>, literal: bool, count: u64) -> Result<(), AllocError>
+    requires { count < 2 ^ 63 }
+    ensures { OnOk result (out.new.items ≡ out.old.items ++ leb (from_magnitude literal count)) }
+{
+    if literal {
+        push_i(out, -1 - count as i64)
+    } else {
+        push_i(out, count as i64)
+    }
+}
+
+// Writes the pending run.
+fn close(
+    done: &mut Vec<u8>,
+    kind: PendingKind,
+    count: u64,
+    front: &[u8],
+    last: &[u8],
+) -> Result<(), AllocError>
+    requires { count < 2 ^ 62 }
+    ensures { OnOk result (done.new.items ≡ done.old.items ++ pending_bytes kind count front.now last.now) }
+{
+    match kind {
+        PendingKind::Nothing => Ok(()),
+        PendingKind::Nulls => {
+            push_header(done, false, 0)?;
+            push_u(done, count)
+        }
+        PendingKind::Repeat => {
+            push_header(done, false, count)?;
+            done.extend_from_slice(last)
+        }
+        PendingKind::Literal => {
+            push_header(done, true, count)?;
+            done.extend_from_slice(front)?;
+            done.extend_from_slice(last)
+        }
+    }
+}
+
+fn put_null<K: Item>(done: &mut Vec<u8>, p: &mut Pending) -> Result<(), AllocError>
+    requires { p.old.count < 2 ^ 62 }
+    ensures { OnOk result ((list : List (Option (List ℕ))) → Holds K.end_of done.old.items p.old.kind p.old.count p.old.front.items p.old.last.items list
+        → Holds K.end_of done.new.items p.new.kind p.new.count p.new.front.items p.new.last.items (list ++ None ∷ [])) }
+{
+    match p.kind {
+        PendingKind::Nulls => {
+            p.count += 1;
+            Ok(())
+        }
+        _ => {
+            close(done, p.kind, p.count, &p.front, &p.last)?;
+            p.kind = PendingKind::Nulls;
+            p.count = 1;
+            Ok(())
+        }
+    }
+}
+
+fn is_same(a: &[u8], b: &[u8]) -> bool
+    ensures { IsTrue result ↔ (a.now ≡ b.now) }
+{
+    a == b
+}
+
+// Begins a literal run with the item.
+fn open_literal<K: Item>(done: &mut Vec<u8>, p: &mut Pending, item: &[u8]) -> Result<(), AllocError>
+    requires item { IsItem K.end_of item.now }
+    requires room { p.old.count < 2 ^ 62 }
+    requires kind { p.old.kind ≡ PendingKind.Literal → ⊥ }
+    requires other { p.old.kind ≡ PendingKind.Repeat → p.old.last.items ≡ item.now → ⊥ }
+    ensures { OnOk result ((list : List (Option (List ℕ))) → Holds K.end_of done.old.items p.old.kind p.old.count p.old.front.items p.old.last.items list
+        → Holds K.end_of done.new.items p.new.kind p.new.count p.new.front.items p.new.last.items (list ++ Some item.now ∷ [])) }
+{
+    close(done, p.kind, p.count, &p.front, &p.last)?;
+    p.kind = PendingKind::Literal;
+    p.count = 0;
+    p.front.clear();
+    p.last.clear();
+    p.last.extend_from_slice(item)?;
+    Ok(())
+}
+
+// Puts an item that equals the last one behind a literal run.
+fn split_literal<K: Item>(done: &mut Vec<u8>, p: &mut Pending) -> Result<(), AllocError>
+    requires room { p.old.count < 2 ^ 62 }
+    requires kind { p.old.kind ≡ PendingKind.Literal }
+    ensures { OnOk result ((list : List (Option (List ℕ))) → Holds K.end_of done.old.items p.old.kind p.old.count p.old.front.items p.old.last.items list
+        → Holds K.end_of done.new.items p.new.kind p.new.count p.new.front.items p.new.last.items (list ++ Some p.old.last.items ∷ [])) }
+{
+    if p.count == 0 {
+        p.kind = PendingKind::Repeat;
+        p.count = 2;
+        return Ok(());
+    }
+    push_header(done, true, p.count - 1)?;
+    done.extend_from_slice(&p.front)?;
+    p.kind = PendingKind::Repeat;
+    p.count = 2;
+    Ok(())
+}
+
+fn extend_literal<K: Item>(p: &mut Pending, item: &[u8], done: &Vec<u8>) -> Result<(), AllocError>
+    requires item { IsItem K.end_of item.now }
+    requires room { p.old.count < 2 ^ 62 }
+    requires kind { p.old.kind ≡ PendingKind.Literal }
+    requires other { p.old.last.items ≡ item.now → ⊥ }
+    ensures { OnOk result ((list : List (Option (List ℕ))) → Holds K.end_of done.now.items p.old.kind p.old.count p.old.front.items p.old.last.items list
+        → Holds K.end_of done.now.items p.new.kind p.new.count p.new.front.items p.new.last.items (list ++ Some item.now ∷ [])) }
+{
+    p.front.extend_from_slice(&p.last)?;
+    p.count += 1;
+    p.last.clear();
+    p.last.extend_from_slice(item)?;
+    Ok(())
+}
+
+fn put_item<K: Item>(done: &mut Vec<u8>, p: &mut Pending, item: &[u8]) -> Result<(), AllocError>
+    requires item { IsItem K.end_of item.now }
+    requires room { p.old.count < 2 ^ 62 }
+    ensures { OnOk result ((list : List (Option (List ℕ))) → Holds K.end_of done.old.items p.old.kind p.old.count p.old.front.items p.old.last.items list
+        → Holds K.end_of done.new.items p.new.kind p.new.count p.new.front.items p.new.last.items (list ++ Some item.now ∷ [])) }
+{
+    match p.kind {
+        PendingKind::Literal => {
+            if is_same(&p.last, item) {
+                split_literal::<K>(done, p)
+            } else {
+                extend_literal::<K>(p, item, done)
+            }
+        }
+        PendingKind::Repeat => {
+            if is_same(&p.last, item) {
+                p.count += 1;
+                Ok(())
+            } else {
+                open_literal::<K>(done, p, item)
+            }
+        }
+        _ => open_literal::<K>(done, p, item),
+    }
+}
+
+pub fn put<K: Item>(
+    done: &mut Vec<u8>,
+    p: &mut Pending,
+    entry: Option<&[u8]>,
+) -> Result<(), AllocError>
+    requires item { IfSome (option_copied entry) (IsItem K.end_of) }
+    requires room { p.old.count < 2 ^ 62 }
+    ensures { OnOk result ((list : List (Option (List ℕ))) → Holds K.end_of done.old.items p.old.kind p.old.count p.old.front.items p.old.last.items list
+        → Holds K.end_of done.new.items p.new.kind p.new.count p.new.front.items p.new.last.items (list ++ option_copied entry.entry ∷ [])) }
+{
+    match entry {
+        None => put_null::<K>(done, p),
+        Some(item) => put_item::<K>(done, p, item),
+    }
+}
+
+pub fn ended<K: Item>(done: Vec<u8>, pending: Pending) -> Result<Vec<u8>, AllocError>
+    requires { pending.count < 2 ^ 62 }
+    ensures { IfOk result (λ bytes. (list : List (Option (List ℕ))) → length list < 2 ^ 63
+        → Holds K.end_of done.items pending.kind pending.count pending.front.items pending.last.items list → Canon K.end_of bytes.items list) }
+{
+    let mut done = done;
+    if let PendingKind::Nulls = pending.kind {
+        if done.is_empty() {
+            return Ok(done);
+        }
+    }
+    close(
+        &mut done,
+        pending.kind,
+        pending.count,
+        &pending.front,
+        &pending.last,
+    )?;
+    Ok(done)
+}

@@ -1,0 +1,113 @@
+//! A place within the runs of a column, and the step to the next entry.
+ghost use Rattle.std.specs.Prelude.{◌≡◌, ◌-◌, ◌<◌};
+ghost use Rattle.std.specs.Option.{option_map, option_copied};
+ghost use Rattle.am_leb.specs.Reading.{first_unsigned};
+ghost use Rattle.am_runs.specs.Walking.{open_run, open_nulls, open_repeat, entry_by, step};
+
+use crate::item::Item;
+use am_leb::{read_i, read_u};
+
+#[derive(Clone, Copy, Debug, PartialEq, Eq)]
+pub enum Kind {
+    Repeat,
+    Literal,
+    Nulls,
+}
+
+/// A place within a run.
+#[derive(Clone, Copy)]
+pub struct Position<'a> {
+    pub kind: Kind,
+    pub count: u64,
+    pub item: &'a [u8],
+    pub rest: &'a [u8],
+}
+
+fn open_null_run<'a>(bytes: &'a [u8]) -> Option<Position<'a>>
+    ensures { option_map (λ p. record { kind = p.kind; count = p.count; item = p.item.now; rest = p.rest.now }) result ≡ open_nulls bytes.now (first_unsigned bytes.now) }
+{
+    match read_u(bytes) {
+        Err(_) => None,
+        Ok((0, _)) => None,
+        Ok((count, len)) => Some(Position {
+            kind: Kind::Nulls,
+            count,
+            item: &bytes[..0],
+            rest: &bytes[len..],
+        }),
+    }
+}
+
+fn open_repeat_run<'a, K: Item>(count: u64, bytes: &'a [u8]) -> Option<Position<'a>>
+    ensures { option_map (λ p. record { kind = p.kind; count = p.count; item = p.item.now; rest = p.rest.now }) result ≡ open_repeat count bytes.now (K.end_of bytes.now) }
+{
+    match K::end(bytes) {
+        None => None,
+        Some(len) => Some(Position {
+            kind: Kind::Repeat,
+            count,
+            item: &bytes[..len],
+            rest: &bytes[len..],
+        }),
+    }
+}
+
+pub fn opened<'a, K: Item>(bytes: &'a [u8]) -> Option<Position<'a>>
+    ensures { option_map (λ p. record { kind = p.kind; count = p.count; item = p.item.now; rest = p.rest.now }) result ≡ open_run K.end_of bytes.now }
+{
+    match read_i(bytes) {
+        Err(_) => None,
+        Ok((n, len)) => {
+            let rest = &bytes[len..];
+            if n == 0 {
+                open_null_run(rest)
+            } else if n > 0 {
+                open_repeat_run::<K>(n as u64, rest)
+            } else {
+                Some(Position {
+                    kind: Kind::Literal,
+                    count: n.unsigned_abs(),
+                    item: &bytes[..0],
+                    rest,
+                })
+            }
+        }
+    }
+}
+
+fn entry<'a, K: Item>(at: Position<'a>) -> Option<(Option<&'a [u8]>, Position<'a>)>
+    requires { 0 < at.count }
+    ensures { option_map (λ x. (option_copied x.0, record { kind = x.1.kind; count = x.1.count; item = x.1.item.now; rest = x.1.rest.now })) result
+        ≡ entry_by K.end_of at.entry.kind (at.entry.count - 1) at.entry.item.now at.entry.rest.now }
+{
+    let count = at.count - 1;
+    match at.kind {
+        Kind::Repeat => Some((Some(at.item), Position { count, ..at })),
+        Kind::Nulls => Some((None, Position { count, ..at })),
+        Kind::Literal => match K::end(at.rest) {
+            None => None,
+            Some(len) => Some((
+                Some(&at.rest[..len]),
+                Position {
+                    kind: Kind::Literal,
+                    count,
+                    item: &at.rest[..0],
+                    rest: &at.rest[len..],
+                },
+            )),
+        },
+    }
+}
+
+pub fn stepped<'a, K: Item>(at: Position<'a>) -> Option<(Option<&'a [u8]>, Position<'a>)>
+    ensures { option_map (λ x. (option_copied x.0, record { kind = x.1.kind; count = x.1.count; item = x.1.item.now; rest = x.1.rest.now })) result
+        ≡ step K.end_of (record { kind = at.entry.kind; count = at.entry.count; item = at.entry.item.now; rest = at.entry.rest.now }) }
+{
+    if at.count > 0 {
+        return entry::<K>(at);
+    }
+    match opened::<K>(at.rest) {
+        None => None,
+        Some(at) => { if at.count > 0 { entry::<K>(at) } else { None } }
+    }
+}

@@ -1,0 +1,43 @@
+//! What an item spells.
+ghost use Rattle.std.specs.Prelude.{◌≡◌};
+ghost use Rattle.am_leb.specs.Leb.{unsigned_value, signed_value};
+ghost use Rattle.am_runs.specs.Items.{IsItem, unsigned_end, signed_end, text_end, text_of};
+
+use am_leb::{read_i, read_u};
+use std::str::from_utf8;
+
+/// The number that an item spells.
+pub fn unsigned_number(item: &[u8]) -> u64
+    requires { IsItem unsigned_end item.now }
+    ensures { result ≡ unsigned_value item.now }
+{
+    match read_u(item) {
+        Ok((n, _)) => n,
+        Err(_) => 0,
+    }
+}
+
+/// The signed number that an item spells.
+pub fn signed_number(item: &[u8]) -> i64
+    requires { IsItem signed_end item.now }
+    ensures { result ≡ signed_value item.now }
+{
+    match read_i(item) {
+        Ok((n, _)) => n,
+        Err(_) => 0,
+    }
+}
+
+/// The text of an item.
+pub fn text_in<'a>(item: &'a [u8]) -> &'a str
+    requires { IsItem text_end item.now }
+    ensures { result.now ≡ text_of item.now }
+{
+    match read_u(item) {
+        Ok((_, len)) => match from_utf8(&item[len..]) {
+            Ok(text) => text,
+            Err(_) => "",
+        },
+        Err(_) => "",
+    }
+}
