@@ -1,0 +1,15 @@
+//! Values of a document: which are good, their numbers and texts, and the columns that hold them.
+#![tactic(auto)]
+
+mod cursor;
+mod cutting;
+mod fault;
+mod good;
+mod number;
+mod text;
+
+pub use cursor::ValueCursor;
+pub use fault::BadValue;
+pub use good::good_value;
+pub use number::{amount_of, number_of};
+pub use text::text_of;
