@@ -1,14 +1,14 @@
 -- Values cut out of raw bytes by their numbers: one at a time, many at once, and what is spelled is cut out again.
-use Rattle.std.proofs.Common.{◌≡◌, ℕ, suc, zero, ◌+◌, ◌*◌, ◌/◌, ◌%◌, ◌-◌, ◌^◌, ◌<◌, ◌≤◌, List, [], ◌∷◌, ◌++◌, length, take, drop, map, Option, Some, None, inl, inr, ◌⊎◌, ⊎_elim, ◌↔◌, refl, sym, ap, ◌∙◌, subst, arith, append_assoc, length-append}
+use Rattle.std.proofs.Common.{◌≡◌, ℕ, suc, zero, ◌+◌, ◌/◌, ◌%◌, ◌-◌, ◌≤◌, List, [], ◌∷◌, ◌++◌, length, take, drop, map, Option, Some, None, inr, ◌⊎◌, ⊎_elim, ◌↔◌, refl, sym, ap, ◌∙◌, subst, arith, length-append}
 use Rattle.std.specs.Prelude.{replicate}
-use Rattle.std.specs.Option.{IfSome, option_map}
-use Rattle.std.specs.List.{flat_map, AllByRecursion}
-use Rattle.std.proofs.lemmas.List.{take_at, drop_at, length-drop, length-take-le, take-append-drop, length-map, drop-drop}
+use Rattle.std.specs.Option.{option_map}
+use Rattle.std.specs.List.{flat_map}
+use Rattle.std.proofs.lemmas.List.{take_at, drop_at, length-drop, length-take-le, take-append-drop, drop-drop}
 use Rattle.am_types.specs.declared.RawValue.{RawValue}
 use Rattle.am_types.specs.Values.{Good}
 use Rattle.am_runs.specs.Typed.{JoinsUnsigned}
 use Rattle.am_values.specs.Columns.{metadata, raw_of, AreGood, JoinsValues}
-use Rattle.am_values.specs.Cutting.{value_from, values_from, width, widths, AreCut, IsCut}
+use Rattle.am_values.specs.Cutting.{values_from, width, AreCut, IsCut}
 
 pub length-values : (meta : List (Option ℕ)) (raw : List ℕ) → length (values_from meta raw) ≡ length meta
 length-values [] raw = refl

@@ -5,11 +5,15 @@ mod cursor;
 mod cutting;
 mod fault;
 mod good;
+mod laws;
 mod number;
 mod text;
+mod writer;
 
 pub use cursor::ValueCursor;
 pub use fault::BadValue;
 pub use good::good_value;
+pub use laws::{canonical_columns_join, one_canonical_spelling, one_list};
 pub use number::{amount_of, number_of};
 pub use text::text_of;
+pub use writer::ValueWriter;

@@ -1,6 +1,6 @@
-use Rattle.std.proofs.Common.{arith, rules, sym, ap, ◌∙◌, ◌≡◌, subst}
+use Rattle.std.proofs.Common.{sym, subst}
 use Rattle.am_values.specs.Cutting.{AreCut}
-use Rattle.am_values.proofs.Cuts.{cut_many, first_must}
+use Rattle.am_values.proofs.Cuts.{cut_many}
 use Rattle.am_values.proofs.cutting.are_cut.Goals as goal
 
 pub loop-number-preserved : goal.loop-number-preserved

@@ -1,4 +1,4 @@
-use Rattle.std.proofs.Common.{arith, rules, sym, ap, ◌∙◌, ◌≡◌, ◌≤◌, ◌-◌, subst, drop}
+use Rattle.std.proofs.Common.{arith, sym, ap, ◌∙◌, ◌≤◌, ◌-◌, subst, drop}
 use Rattle.std.proofs.lemmas.Grind.{common_steps}
 use Rattle.am_values.specs.Cutting.{AreCut, values_from}
 use Rattle.am_values.proofs.Cuts.{skips}

@@ -1,4 +1,4 @@
-use Rattle.std.proofs.Common.{arith, sym, ap, ◌∙◌, ◌≡◌, ◌≤◌, length, subst, map}
+use Rattle.std.proofs.Common.{arith, sym, subst, map}
 use Rattle.std.specs.Option.{option_map}
 use Rattle.std.proofs.lemmas.List.{length-map}
 use Rattle.am_runs.proofs.Spelled.{one_unsigned}
