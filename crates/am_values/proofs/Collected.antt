@@ -73,9 +73,10 @@ pushed failed (Some list) next raw after old v f h e good a n =
     let raw_are : after ≡ joined more = a ∙ ap (λ l. l ++ v.raw) w.1 ∙ sym (joined-push values v) in
     let all : AllGood more = good-push values v w.2 good in
     let seen : shown after (list ++ Some (uleb (metadata v)) ∷ []) ≡ more = ap (λ r. shown r (list ++ Some (uleb (metadata v)) ∷ [])) raw_are ∙ ap (shown (joined more)) entries_are ∙ shown-spellings more all in
-    let held : IsCollecting false (Some (list ++ Some (uleb (metadata v)) ∷ [])) after = subst (λ vs. AreOf vs (list ++ Some (uleb (metadata v)) ∷ []) after) (sym seen) (entries_are, raw_are, all) in
-    (subst (λ o. IsCollecting false o after) (sym n) held,
-     subst (λ o. IfSome o (λ vs. values_written false next after ≡ Some (vs ++ v ∷ []))) (written_is failed (Some list) raw old f e) (ap (option_map (shown after)) n ∙ ap Some seen))
+    let held : IsCollecting false (Some (list ++ Some (uleb (metadata v)) ∷ [])) after = subst (λ vs. AreOf vs (list ++ Some (uleb (metadata v)) ∷ []) after) (sym seen) (entries_are, raw_are, all) in (
+      subst (λ o. IsCollecting false o after) (sym n) held,
+      subst (λ o. IfSome o (λ vs. values_written false next after ≡ Some (vs ++ v ∷ []))) (written_is failed (Some list) raw old f e) (ap (option_map (shown after)) n ∙ ap Some seen),
+    )
 
 pub finished : (failed : Bool) (entries : Option (List (Option (List ℕ)))) (raw numbers : List ℕ) (old : Option (List RawValue)) → failed ≡ false → IsCollecting failed entries raw → values_written failed entries raw ≡ old
     → IfSome entries (Canon unsigned_end numbers) → IfSome old (CanonValues numbers raw)

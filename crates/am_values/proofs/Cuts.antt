@@ -129,6 +129,7 @@ values_many (suc (suc j)) k x list raw rest g h o e r =
 pub skips : (j k n all : ℕ) (x : Option ℕ) (list first : List (Option ℕ)) (raw rest start : List ℕ) → 1 ≤ j → j ≤ k → j ≤ n → (j ≡ 1) ⊎ (width x ≡ 0) → take k list ≡ replicate k x → rest ≡ drop (width x) raw → AreCut list raw → drop n (values_from list raw) ≡ drop all (values_from first start)
     → AreCut (drop j list) rest × (drop (n - j) (values_from (drop j list) rest) ≡ drop all (values_from first start))
 skips j k n all x list first raw rest start g h i o e r c d =
-    let one = first_must x k list raw (omega arith) e c in
-    ((cut_many j k x list raw rest g h o e one r).1 c,
-     ap (drop (n - j)) (sym (values_many j k x list raw rest g h o e r)) ∙ drop-drop (n - j) j (values_from list raw) ∙ ap (λ m. drop m (values_from list raw)) (let q : j + (n - j) ≡ n = omega arith in q) ∙ d)
+    let one = first_must x k list raw (omega arith) e c in (
+      (cut_many j k x list raw rest g h o e one r).1 c,
+      ap (drop (n - j)) (sym (values_many j k x list raw rest g h o e r)) ∙ drop-drop (n - j) j (values_from list raw) ∙ ap (λ m. drop m (values_from list raw)) (let q : j + (n - j) ≡ n = omega arith in q) ∙ d,
+    )

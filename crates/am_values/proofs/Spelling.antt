@@ -67,5 +67,5 @@ pub canonical_is_joined : (numbers raw : List ℕ) (values : List RawValue) → 
 canonical_is_joined numbers raw values c = record {
   numbers_are = subst (JoinsRuns unsigned_end numbers) (spellings-map values) (canonical_joins values numbers c.numbers_are);
   raw_are = c.raw_are ∙ joined-map values;
-  good = good-map values c.good
+  good = good-map values c.good;
 }

@@ -46,13 +46,7 @@ fn steps(number: Option<u64>, count: u64) -> u64
 {
     match number {
         None => count,
-        Some(number) => {
-            if number / 16 == 0 {
-                count
-            } else {
-                1
-            }
-        }
+        Some(number) => { if number / 16 == 0 { count } else { 1 } }
     }
 }
 

@@ -7,6 +7,8 @@ mod fault;
 mod good;
 mod laws;
 mod number;
+#[cfg(test)]
+mod tests;
 mod text;
 mod writer;
 
