@@ -1,11 +1,12 @@
 -- Columns of values (Automerge Binary Document Format, "Value Metadata" and "Value"): one column of numbers, which say
 -- the kind and the length of each value, and one column of the bytes of all values.
 --
+--     HasNumber kind                   values of the kind have a number
 --     metadata value                   the number that tells the kind and the length of a value
 --     JoinsValues numbers raw values   the two columns spell the values, in any way of runs
 --     CanonValues numbers raw values   the two columns are the canonical ones of the values
 --     canonical_numbers values, joined values     those columns
-use Rattle.std.specs.Prelude.{◌≡◌, ℕ, ◌+◌, ◌*◌, List, [], length, map, Option, Some, None, IfSome}
+use Rattle.std.specs.Prelude.{◌≡◌, ℕ, ◌+◌, ◌*◌, ◌⊎◌, List, [], length, map, Option, Some, None, IfSome}
 use Rattle.std.specs.Option.{option_map}
 use Rattle.std.specs.List.{flat_map, AllByRecursion}
 use Rattle.am_leb.specs.Leb.{uleb}
@@ -14,6 +15,10 @@ use Rattle.am_types.specs.Values.{Good}
 use Rattle.am_runs.specs.Items.{unsigned_end}
 use Rattle.am_runs.specs.Typed.{JoinsUnsigned}
 use Rattle.am_runs.specs.Canonical.{Canon, canonical_bytes}
+
+-- the kinds of values that have a number: unsigned and signed numbers, counters and timestamps
+abbrev pub HasNumber : ℕ → Type 0
+HasNumber kind = (kind ≡ 3) ⊎ (kind ≡ 4) ⊎ (kind ≡ 8) ⊎ (kind ≡ 9)
 
 -- The low four bits are the kind, and the rest is the length.
 abbrev pub metadata : RawValue → ℕ
