@@ -1,0 +1,5 @@
+pub mod Metadata
+pub mod Actors
+pub mod Judgement
+pub mod Reading
+pub mod Writing

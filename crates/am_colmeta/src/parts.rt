@@ -1,0 +1,82 @@
+//! The parts of lists: numbers, pairs of numbers, and bytes behind their length.
+ghost use Rattle.std.specs.Prelude.{◌≡◌, ◌<◌, ◌^◌, ℕ, List};
+ghost use Rattle.std.specs.Option.{option_map, IfSome};
+ghost use Rattle.am_colmeta.specs.Reading.{first_number, first_pair, first_prefixed, behind};
+
+use am_leb::read_u;
+
+// The number that stands first, and the bytes behind it.
+pub fn number_at<'a>(bytes: &'a [u8]) -> Option<(u64, &'a [u8])>
+    ensures read { option_map {U = ℕ × List ℕ} (λ found. (found.0, found.1.now)) result ≡ first_number bytes.now }
+    ensures fits { IfSome result (λ found. found.0 < 2 ^ 64) }
+{
+    match read_u(bytes) {
+        Err(_) => None,
+        Ok((number, size)) => {
+            let (_, rest) = bytes.split_at(size);
+            Some((number, rest))
+        }
+    }
+}
+
+// A specification and a length, and the bytes behind them.
+pub fn pair_at<'a>(bytes: &'a [u8]) -> Option<((u64, u64), &'a [u8])>
+    ensures read { option_map {U = (ℕ × ℕ) × List ℕ} (λ found. (found.0, found.1.now)) result ≡ first_pair bytes.now }
+    ensures fits { IfSome result (λ found. (found.0.0 < 2 ^ 64) × (found.0.1 < 2 ^ 64)) }
+{
+    match number_at(bytes) {
+        None => None,
+        Some((specification, rest)) => match number_at(rest) {
+            None => None,
+            Some((length, rest)) => Some(((specification, length), rest)),
+        },
+    }
+}
+
+// Bytes that stand behind their length, and the bytes behind them.
+pub fn prefixed_at<'a>(bytes: &'a [u8]) -> Option<(&'a [u8], &'a [u8])>
+    ensures { option_map {U = List ℕ × List ℕ} (λ found. (found.0.now, found.1.now)) result ≡ first_prefixed bytes.now }
+{
+    match number_at(bytes) {
+        None => None,
+        Some((length, rest)) => {
+            if length <= rest.len() as u64 {
+                Some(rest.split_at(length as usize))
+            } else {
+                None
+            }
+        }
+    }
+}
+
+// The bytes behind so many specifications and lengths.
+pub fn behind_pairs<'a>(bytes: &'a [u8], count: u64) -> Option<&'a [u8]>
+    ensures { option_map (λ rest. rest.now) result ≡ behind first_pair count bytes.now }
+{
+    let mut rest = bytes;
+    let mut left = count;
+    while left > 0 {
+        match pair_at(rest) {
+            None => return None,
+            Some((_, more)) => rest = more,
+        }
+        left -= 1;
+    }
+    Some(rest)
+}
+
+// The bytes behind so many that each stand behind their length.
+pub fn behind_prefixed<'a>(bytes: &'a [u8], count: u64) -> Option<&'a [u8]>
+    ensures { option_map (λ rest. rest.now) result ≡ behind first_prefixed count bytes.now }
+{
+    let mut rest = bytes;
+    let mut left = count;
+    while left > 0 {
+        match prefixed_at(rest) {
+            None => return None,
+            Some((_, more)) => rest = more,
+        }
+        left -= 1;
+    }
+    Some(rest)
+}

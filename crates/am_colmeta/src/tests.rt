@@ -1,0 +1,117 @@
+//! Outside values for column metadata: a whole change's columns, refusals in their order, lists of actors.
+use crate::*;
+use std::alloc::AllocError;
+
+// The metadata and the columns of a change that sets one key, with one more column of numbers.
+const METADATA: [u8; 16] = [
+    0x07, 0x15, 0x03, 0x34, 0x01, 0x42, 0x02, 0x56, 0x02, 0x57, 0x01, 0x70, 0x02, 0xb2, 0x01, 0x02,
+];
+
+const BODY: [u8; 13] = [
+    0x7f, 0x01, 0x61, 0x01, 0x7f, 0x01, 0x7f, 0x13, 0x01, 0x7f, 0x00, 0x7f, 0x05,
+];
+
+const KNOWN: [u64; 7] = [0x15, 0x34, 0x42, 0x56, 0x57, 0x70, 0xb2];
+
+#[test]
+fn refuses_in_order(rt: HostRuntime) {
+    let rows: [(&[u8], &[u8], Option<ColumnFault>); 8] = [
+        (
+            &[0x01, 0x1d, 0x00],
+            &[],
+            Some(ColumnFault::CompressedColumn),
+        ),
+        (
+            &[0x02, 0x15, 0x00, 0x15, 0x00],
+            &[],
+            Some(ColumnFault::NotAscending),
+        ),
+        (
+            &[0x01, 0x61, 0x00],
+            &[],
+            Some(ColumnFault::UnknownColumn(97)),
+        ),
+        (&[0x01, 0x15, 0x02], &[0x00], Some(ColumnFault::Width)),
+        (
+            &[0x02, 0x15, 0x00, 0x0d, 0x00],
+            &[],
+            Some(ColumnFault::CompressedColumn),
+        ),
+        (
+            &[0x02, 0x61, 0x00, 0x15, 0x00],
+            &[],
+            Some(ColumnFault::NotAscending),
+        ),
+        (
+            &[0x01, 0x61, 0x02],
+            &[0x00],
+            Some(ColumnFault::UnknownColumn(97)),
+        ),
+        (&[0x01, 0x15, 0x01], &[0x00], None),
+    ];
+    for (metadata, body, want) in rows {
+        let Ok((list, size)) = ColumnList::read(metadata) else {
+            assert!(rt; false, "the metadata can be read");
+            return;
+        };
+        assert_eq!(rt; size, metadata.len());
+        match Columns::over(list, body, &[21]) {
+            Ok(_) => assert!(rt; want.is_none(), "the columns are refused"),
+            Err(fault) => assert!(rt; want == Some(fault), "another fault is told"),
+        }
+    }
+}
+
+#[test]
+fn reads_the_columns_of_a_change(rt: HostRuntime) {
+    let Ok((list, size)) = ColumnList::read(&METADATA) else {
+        assert!(rt; false, "the metadata can be read");
+        return;
+    };
+    assert_eq!(rt; size, 16);
+    assert!(rt; !list.compressed());
+    assert!(rt; list.total() == 13);
+    let Ok(columns) = Columns::over(list.again(), &BODY, &KNOWN) else {
+        assert!(rt; false, "the columns fill the body");
+        return;
+    };
+    assert!(rt; columns.find(0x15) == &[0x7f, 0x01, 0x61][..]);
+    assert!(rt; columns.again().find(0x57) == &[0x01][..]);
+    assert!(rt; columns.find(0xb2) == &[0x7f, 0x05][..]);
+    assert!(rt; columns.find(0x25).is_empty());
+    assert!(rt; ColumnList::read(&METADATA[..15]).is_err());
+    assert!(rt; ColumnList::read(&[]).is_err());
+}
+
+#[test]
+fn writes_the_columns_of_a_change(rt: HostRuntime) -> Result<(), AllocError> {
+    let mut writer = ColumnWriter::new(rt.alloc());
+    writer.push(0x15, &[0x7f, 0x01, 0x61])?;
+    writer.push(0x25, &[])?;
+    writer.push(0x34, &[0x01])?;
+    writer.push(0x42, &[0x7f, 0x01])?;
+    writer.push(0x56, &[0x7f, 0x13])?;
+    writer.push(0x57, &[0x01])?;
+    writer.push(0x70, &[0x7f, 0x00])?;
+    writer.push(0xa5, &[])?;
+    writer.push(0xb2, &[0x7f, 0x05])?;
+    let (metadata, body) = writer.finish()?;
+    assert!(rt; metadata.as_slice() == &METADATA[..]);
+    assert!(rt; body.as_slice() == &BODY[..]);
+    Ok(())
+}
+
+#[test]
+fn reads_a_list_of_actors(rt: HostRuntime) {
+    let bytes: [u8; 7] = [0x02, 0x01, 0xaa, 0x02, 0xbb, 0xcc, 0xff];
+    let Ok((actors, size)) = ActorList::read(&bytes) else {
+        assert!(rt; false, "the actors can be read");
+        return;
+    };
+    assert_eq!(rt; size, 6);
+    assert_eq!(rt; actors.count(), 2);
+    assert!(rt; actors.get(0) == Some(&[0xaa][..]));
+    assert!(rt; actors.again().get(1) == Some(&[0xbb, 0xcc][..]));
+    assert!(rt; actors.get(2).is_none());
+    assert!(rt; ActorList::read(&bytes[..5]).is_err());
+}

@@ -1,0 +1,4 @@
+pub mod Cuts
+pub mod Collected
+pub mod Spelling
+pub mod Short

@@ -1,0 +1,96 @@
+//! A cursor over the values of two columns.
+ghost use Rattle.std.specs.Prelude.{◌≡◌, ◌<◌, ◌≤◌, ◌∷◌, [], List, Option, length, drop, IfOk, IfSome, IfNone, OnErr};
+ghost use Rattle.std.specs.Option.{option_map};
+ghost use Rattle.am_types.specs.declared.RawValue.{RawValue};
+ghost use Rattle.am_types.specs.Views.{value_of};
+ghost use Rattle.am_values.specs.Columns.{JoinsValues};
+
+use crate::cutting::{are_cut, cut, skipped};
+use crate::fault::BadValue;
+use am_runs::UnsignedCursor;
+use am_types::ValueRef;
+use std::marker::Model;
+
+/// The values of two columns, one after another. A contract sees those that are left.
+#[derive(Drop)]
+pub struct ValueCursor<'a> {
+    numbers: UnsignedCursor<'a>,
+    raw: &'a [u8],
+}
+
+impl<'a> Model for ValueCursor<'a> {
+    ghost use Rattle.std.specs.Prelude.{List, Option};
+    ghost use Rattle.am_types.specs.declared.RawValue.{RawValue};
+
+    ghost Value = { List (Option RawValue) };
+
+    ghost use Rattle.am_values.specs.Cutting.{values_from, AreCut};
+
+    ghost view = { λ cursor. values_from cursor.numbers cursor.raw.now };
+
+    ghost invariant = { λ cursor. AreCut cursor.numbers cursor.raw.now };
+}
+
+impl<'a> ValueCursor<'a> {
+    /// The values that the two columns spell: numbers that tell kinds and lengths, and raw bytes (Automerge Binary
+    /// Document Format, "Value Metadata" and "Value"). BadValue where they spell no list of at most so many good values
+    /// and nulls.
+    pub fn over(meta: &'a [u8], raw: &'a [u8], most: u64) -> Result<Self, BadValue>
+        ensures ok { IfOk result (λ values. JoinsValues meta.now raw.now values × (length values ≤ most)) }
+        ensures err { OnErr result ((values : List (Option RawValue)) → JoinsValues meta.now raw.now values → most < length values) }
+    {
+        match UnsignedCursor::over(meta, most) {
+            Err(_) => Err(BadValue),
+            Ok(numbers) => {
+                if are_cut(numbers.again(), raw) {
+                    Ok(ValueCursor { numbers, raw })
+                } else {
+                    Err(BadValue)
+                }
+            }
+        }
+    }
+
+    /// How many values are left.
+    pub fn left(&self) -> u64
+        ensures { result ≡ length self.now }
+    {
+        self.numbers.left()
+    }
+
+    /// The same cursor again.
+    pub fn again(&self) -> Self
+        ensures { result ≡ self.now }
+    {
+        ValueCursor {
+            numbers: self.numbers.again(),
+            raw: self.raw,
+        }
+    }
+
+    /// Leaves out the next values, or all where fewer are left.
+    pub fn skip(&mut self, n: u64)
+        ensures { self.new ≡ drop n self.old }
+    {
+        self.raw = skipped(&mut self.numbers, self.raw, n);
+    }
+
+    /// The next value, or null as the inner None. At the end it stays there.
+    pub fn next(&mut self) -> Option<Option<ValueRef<'a>>>
+        ensures end { IfNone result ((self.old ≡ []) × (self.new ≡ [])) }
+        ensures next { IfSome result (λ value. self.old ≡ option_map value_of value ∷ self.new) }
+    {
+        match self.numbers.next() {
+            None => None,
+            Some(None) => Some(None),
+            Some(Some(number)) => {
+                let (raw, rest) = cut(number / 16, self.raw);
+                self.raw = rest;
+                Some(Some(ValueRef {
+                    kind: (number % 16) as u8,
+                    raw,
+                }))
+            }
+        }
+    }
+}

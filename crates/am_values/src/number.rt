@@ -1,0 +1,76 @@
+//! The numbers of values.
+ghost use Rattle.std.specs.Prelude.{◌≡◌, ◌<◌, ◌^◌, ◌↔◌, length, IfSome, IsSome};
+ghost use Rattle.am_types.specs.Numbers.{unsigned_of, signed_of};
+ghost use Rattle.am_types.specs.Values.{Good, number_of, amount};
+ghost use Rattle.am_types.specs.Views.{value_of};
+ghost use Rattle.am_values.specs.Columns.{HasNumber};
+
+use am_leb::{read_i, read_u};
+use am_types::{ValueRef, slice_known};
+
+// The unsigned number that the raw bytes spell, whole.
+#[tactic(auto, unfolding(am_types::specs::Numbers::unsigned_of))]
+pub fn unsigned_in(raw: &[u8]) -> Option<u64>
+    ensures number { result ≡ unsigned_of raw.now }
+    ensures short { IfSome result (λ _. length raw.now < 2 ^ 60) }
+{
+    match read_u(raw) {
+        Err(_) => None,
+        Ok((number, size)) => {
+            if size == raw.len() {
+                Some(number)
+            } else {
+                None
+            }
+        }
+    }
+}
+
+// The signed number that the raw bytes spell, whole.
+#[tactic(auto, unfolding(am_types::specs::Numbers::signed_of))]
+pub fn signed_in(raw: &[u8]) -> Option<i64>
+    ensures number { result ≡ signed_of raw.now }
+    ensures short { IfSome result (λ _. length raw.now < 2 ^ 60) }
+{
+    match read_i(raw) {
+        Err(_) => None,
+        Ok((number, size)) => {
+            if size == raw.len() {
+                Some(number)
+            } else {
+                None
+            }
+        }
+    }
+}
+
+/// The number of a good value of kind 3, 4, 8 or 9: an unsigned or a signed number, a counter, a timestamp. None for
+/// all other values.
+pub fn number_of(value: ValueRef<'_>) -> Option<i128>
+    ensures number { result ≡ number_of (value_of value.entry) }
+    ensures some { IsSome result ↔ (HasNumber value.entry.kind × Good (value_of value.entry)) }
+{
+    slice_known(value.raw);
+    match value.kind {
+        3 => match unsigned_in(value.raw) {
+            None => None,
+            Some(number) => Some(i128::from(number)),
+        },
+        4 | 8 | 9 => match signed_in(value.raw) {
+            None => None,
+            Some(number) => Some(i128::from(number)),
+        },
+        _ => None,
+    }
+}
+
+/// What an increment by the value adds to a counter: the number of a number or a counter (kinds 3, 4 and 8), and 0
+/// for any other value.
+pub fn amount_of(value: ValueRef<'_>) -> i128
+    ensures { result ≡ amount (value_of value.entry) }
+{
+    match value.kind {
+        3 | 4 | 8 => number_of(value).unwrap_or(0),
+        _ => 0,
+    }
+}
