@@ -17,3 +17,4 @@ pub mod Spelled
 pub mod Sights
 pub mod Onward
 pub mod Spellings
+pub mod Taken

@@ -98,3 +98,7 @@ pub record Jumps (end : List ℕ → Option ℕ) (from : Place) (k : ℕ) (to : 
 -- The next k entries are all this one.
 abbrev pub AreAlike : (List ℕ → Option ℕ) → Place → ℕ → Option (List ℕ) → Type 0
 AreAlike end place k entry = (j n : ℕ) → j ≤ k → j ≤ n → take j (entries end n place) ≡ replicate j entry
+
+-- The next k entries are all this one, and the place is behind them.
+abbrev pub Takes : (List ℕ → Option ℕ) → Place → Option (List ℕ) → ℕ → Place → Type 0
+Takes end from entry k to = Jumps end from k to × AreAlike end from k entry

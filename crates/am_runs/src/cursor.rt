@@ -1,5 +1,5 @@
 //! A cursor over the items of a column. It takes no memory.
-ghost use Rattle.std.specs.Prelude.{◌≡◌, ◌<◌, ◌≤◌, ◌∷◌, [], ℕ, List, Option, length, take, drop, IfOk, IfSome, IfNone, OnErr, replicate};
+ghost use Rattle.std.specs.Prelude.{◌≡◌, ◌<◌, ◌≤◌, ◌++◌, ◌∷◌, [], ℕ, List, Option, length, take, drop, IfOk, IfSome, IfNone, OnErr, replicate};
 ghost use Rattle.std.specs.Option.{option_copied};
 ghost use Rattle.am_runs.specs.Runs.{JoinsRuns};
 
@@ -9,6 +9,7 @@ use crate::likeness::alike;
 use crate::place::{Kind, Position, stepped};
 use crate::run::run_at;
 use crate::skipping::skipped;
+use crate::taking::taken;
 use std::marker::{Model, PhantomData};
 
 /// The entries of a column, one after another.
@@ -99,6 +100,26 @@ impl<'a, K: Item> RunCursor<'a, K> {
         }
     }
 
+    // The next entry with all those like it that its run still gives.
+    #[inline(always)]
+    pub(crate) fn next_alike(&mut self) -> Option<(Option<&'a [u8]>, u64)>
+        ensures end { IfNone result ((self.old ≡ []) × (self.new ≡ [])) }
+        ensures next { IfSome result (λ r. (1 ≤ r.1) × (self.old ≡ replicate r.1 (option_copied r.0) ++ self.new)) }
+    {
+        if self.left == 0 {
+            return None;
+        }
+        match taken::<K>(self.at, self.left) {
+            None => None,
+            Some((entry, k, at)) => {
+                self.at = at;
+                self.left -= k;
+                Some((entry, k))
+            }
+        }
+    }
+
+    #[inline(always)]
     pub fn next(&mut self) -> Option<Option<&'a [u8]>>
         ensures end { IfNone result ((self.old ≡ []) × (self.new ≡ [])) }
         ensures next { IfSome result (λ entry. self.old ≡ option_copied entry ∷ self.new) }

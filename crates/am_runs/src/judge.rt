@@ -190,7 +190,7 @@ fn or_item(seen: bool, first: Option<&[u8]>) -> bool
     if seen { true } else { first.is_some() }
 }
 
-/// Whether the bytes are the canonical spelling of a list of at most `most` entries.
+/// Whether the bytes are the canonical spelling of a list of at most `most` entries. It takes no memory.
 pub fn is_canonical<K: Item>(bytes: &[u8], most: u64) -> bool
     ensures { IsTrue result ↔ ((list : List (Option (List ℕ))) × Canon K.end_of bytes.now list × (length list ≤ most)) }
 {

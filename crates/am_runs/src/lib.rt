@@ -12,6 +12,7 @@ mod place;
 mod run;
 mod signed;
 mod skipping;
+mod taking;
 #[cfg(test)]
 mod tests;
 mod text;

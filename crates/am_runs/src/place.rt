@@ -75,6 +75,7 @@ pub fn opened<'a, K: Item>(bytes: &'a [u8]) -> Option<Position<'a>>
     }
 }
 
+#[inline(always)]
 fn entry<'a, K: Item>(at: Position<'a>) -> Option<(Option<&'a [u8]>, Position<'a>)>
     requires { 0 < at.count }
     ensures { option_map (λ x. (option_copied x.0, record { kind = x.1.kind; count = x.1.count; item = x.1.item.now; rest = x.1.rest.now })) result
@@ -99,6 +100,7 @@ fn entry<'a, K: Item>(at: Position<'a>) -> Option<(Option<&'a [u8]>, Position<'a
     }
 }
 
+#[inline(always)]
 pub fn stepped<'a, K: Item>(at: Position<'a>) -> Option<(Option<&'a [u8]>, Position<'a>)>
     ensures { option_map (λ x. (option_copied x.0, record { kind = x.1.kind; count = x.1.count; item = x.1.item.now; rest = x.1.rest.now })) result
         ≡ step K.end_of (record { kind = at.entry.kind; count = at.entry.count; item = at.entry.item.now; rest = at.entry.rest.now }) }

@@ -7,6 +7,7 @@ ghost use Rattle.am_runs.specs.Walking.{behind_items, and_behind};
 use crate::item::Item;
 use crate::place::{Kind, opened};
 
+#[inline(always)]
 fn behind_one<'a, K: Item>(bytes: &'a [u8]) -> Option<&'a [u8]>
     ensures { option_copied result ≡ and_behind Some bytes.now (K.end_of bytes.now) }
 {

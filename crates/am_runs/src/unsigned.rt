@@ -1,6 +1,9 @@
 //! A cursor over the unsigned numbers of a column.
 ghost use Rattle.std.specs.Prelude.{◌≡◌, ◌<◌, ◌≤◌, ◌∷◌, [], ℕ, List, Option, length, take, drop, IfOk, IfSome, IfNone, OnErr, replicate};
 ghost use Rattle.am_runs.specs.Typed.{JoinsUnsigned};
+ghost use Rattle.std.specs.Option.{option_copied, option_map};
+ghost use Rattle.am_leb.specs.Leb.{unsigned_value};
+ghost use Rattle.am_runs.specs.Items.{IsItem, unsigned_end};
 
 use crate::cursor::RunCursor;
 use crate::fault::BadRun;
@@ -8,23 +11,38 @@ use crate::item::UnsignedItem;
 use crate::value::unsigned_number;
 use std::marker::Model;
 
+// The number of an item, and null of null.
+#[inline(always)]
+fn number_of(entry: Option<&[u8]>) -> Option<u64>
+    requires { IfSome (option_copied entry) (IsItem unsigned_end) }
+    ensures { result ≡ option_map unsigned_value (option_copied entry.entry) }
+{
+    match entry {
+        None => None,
+        Some(item) => Some(unsigned_number(item)),
+    }
+}
+
 /// The unsigned numbers of a column, one after another.
 #[derive(Drop)]
 pub struct UnsignedCursor<'a> {
     runs: RunCursor<'a, UnsignedItem>,
+    // So many of this value come before those of the runs.
+    more: u64,
+    value: Option<u64>,
 }
 
 impl<'a> Model for UnsignedCursor<'a> {
-    ghost use Rattle.std.specs.Prelude.{ℕ, ℤ, List, Option};
+    ghost use Rattle.std.specs.Prelude.{ℕ, ℤ, ◌+◌, ◌^◌, ◌<◌, ◌++◌, List, Option, length, replicate};
 
     ghost Value = { List (Option ℕ) };
 
     ghost use Rattle.am_runs.specs.Items.{unsigned_end};
     ghost use Rattle.am_runs.specs.Typed.{AllItems, unsigned_numbers};
 
-    ghost view = { λ a. unsigned_numbers a.runs };
+    ghost view = { λ a. replicate a.more a.value ++ unsigned_numbers a.runs };
 
-    ghost invariant = { λ a. AllItems unsigned_end a.runs };
+    ghost invariant = { λ a. AllItems unsigned_end a.runs × (a.more + length a.runs < 2 ^ 64) };
 }
 
 impl<'a> UnsignedCursor<'a> {
@@ -34,14 +52,18 @@ impl<'a> UnsignedCursor<'a> {
     {
         match RunCursor::over(bytes, most) {
             Err(fault) => Err(fault),
-            Ok(runs) => Ok(UnsignedCursor { runs }),
+            Ok(runs) => Ok(UnsignedCursor {
+                runs,
+                more: 0,
+                value: None,
+            }),
         }
     }
 
     pub fn left(&self) -> u64
         ensures { result ≡ length self.now }
     {
-        self.runs.left()
+        self.more + self.runs.left()
     }
 
     pub fn again(&self) -> Self
@@ -49,13 +71,20 @@ impl<'a> UnsignedCursor<'a> {
     {
         UnsignedCursor {
             runs: self.runs.again(),
+            more: self.more,
+            value: self.value,
         }
     }
 
     pub fn skip(&mut self, n: u64)
         ensures { self.new ≡ drop n self.old }
     {
-        self.runs.skip(n);
+        if n <= self.more {
+            self.more -= n;
+            return;
+        }
+        self.runs.skip(n - self.more);
+        self.more = 0;
     }
 
     /// The next value, and how often it comes next at least. It goes on by none.
@@ -63,21 +92,31 @@ impl<'a> UnsignedCursor<'a> {
         ensures end { IfNone result (self.now ≡ []) }
         ensures like { IfSome result (λ r. (1 ≤ r.1) × (r.1 ≤ length self.now) × (take r.1 self.now ≡ replicate r.1 r.0)) }
     {
+        if self.more > 0 {
+            return Some((self.value, self.more));
+        }
         match self.runs.like() {
             None => None,
-            Some((None, k)) => Some((None, k)),
-            Some((Some(item), k)) => Some((Some(unsigned_number(item)), k)),
+            Some((entry, k)) => Some((number_of(entry), k)),
         }
     }
 
+    #[inline(always)]
     pub fn next(&mut self) -> Option<Option<u64>>
         ensures end { IfNone result ((self.old ≡ []) × (self.new ≡ [])) }
         ensures next { IfSome result (λ value. self.old ≡ value ∷ self.new) }
     {
-        match self.runs.next() {
+        if self.more > 0 {
+            self.more -= 1;
+            return Some(self.value);
+        }
+        match self.runs.next_alike() {
             None => None,
-            Some(None) => Some(None),
-            Some(Some(item)) => Some(Some(unsigned_number(item))),
+            Some((entry, k)) => {
+                self.value = number_of(entry);
+                self.more = k - 1;
+                Some(self.value)
+            }
         }
     }
 }

@@ -7,6 +7,7 @@ use am_leb::{read_i, read_u};
 use std::str::from_utf8;
 
 /// The number that an item spells.
+#[inline(always)]
 pub fn unsigned_number(item: &[u8]) -> u64
     requires { IsItem unsigned_end item.now }
     ensures { result ≡ unsigned_value item.now }
@@ -18,6 +19,7 @@ pub fn unsigned_number(item: &[u8]) -> u64
 }
 
 /// The signed number that an item spells.
+#[inline(always)]
 pub fn signed_number(item: &[u8]) -> i64
     requires { IsItem signed_end item.now }
     ensures { result ≡ signed_value item.now }

@@ -1,0 +1,8 @@
+use Rattle.std.proofs.Common.{arith, rules, ap, length}
+use Rattle.std.specs.Option.{option_map}
+use Rattle.am_leb.specs.Leb.{signed_value}
+use Rattle.am_runs.proofs.Taken.{length-held}
+use Rattle.am_runs.proofs.signed.SignedCursor.left.Goals as goal
+
+pub returns : goal.returns
+returns c = omega (arith, c.left.ensures, length-held (option_map signed_value) c.self.inside.more c.self.inside.value c.self.inside.runs, ap length c.self.view_is)
