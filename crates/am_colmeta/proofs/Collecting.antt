@@ -1,25 +1,29 @@
 -- The steps of the writer of columns.
-use Rattle.std.proofs.Common.{◌≡◌, ℕ, ◌<◌, Bool, true, false, List, [], ◌∷◌, ◌++◌, length, Option, Some, None, sym, ap, ◌∙◌, subst, arith, length-append}
+use Rattle.std.proofs.Common.{◌≡◌, ℕ, ◌<◌, ◌^◌, Bool, true, false, List, [], ◌∷◌, ◌++◌, length, Option, Some, None, sym, ap, ◌∙◌, subst, arith, length-append}
 use Rattle.std.specs.Option.{IfSome}
-use Rattle.std.specs.List.{flat_map, count_by}
+use Rattle.std.specs.List.{flat_map, count_by, AllByRecursion}
 use Rattle.am_leb.specs.Leb.{uleb}
-use Rattle.am_colmeta.specs.Metadata.{metadata, listing, not_empty, total, body, Ascend, AscendFrom}
+use Rattle.am_colmeta.specs.Metadata.{metadata, listing, not_empty, total, body, Ascend, AscendFrom, IsPair, AreListed}
 use Rattle.am_colmeta.specs.Reading.{cut}
 use Rattle.am_colmeta.specs.Writing.{IsAbove, has_length, entry_bytes, columns_written, IsCollecting}
 use Rattle.am_colmeta.proofs.Cutting.{total-push, cut-push, Ascend-push, listing-cut, body-cut}
-use Rattle.am_colmeta.proofs.Entries.{metadata_written, body-not_empty}
+use Rattle.am_colmeta.proofs.Entries.{metadata_written, count-entries, body-not_empty}
 
-pub pushed : (failed : Bool) (listed next : List (ℕ × ℕ)) (bytes after more rest : List ℕ) (specification : ℕ) (old : Option (List (ℕ × List ℕ)))
-    → failed ≡ false → columns_written failed listed bytes ≡ old → IsCollecting failed listed bytes rest → IfSome old (IsAbove specification)
-    → next ≡ listed ++ (specification, length more) ∷ [] → after ≡ bytes ++ more
-    → IsCollecting false next after rest × IfSome old (λ columns. ◌≡◌ {A = Option (List (ℕ × List ℕ))} (Some (cut next after)) (Some (columns ++ (specification, more) ∷ [])))
-pushed true listed next bytes after more rest specification old f v h a e g = absurd (cc f)
-pushed false listed next bytes after more rest specification old f v h a e g =
+pairs-push : (listed : List (ℕ × ℕ)) (pair : ℕ × ℕ) → AllByRecursion IsPair listed → IsPair pair → AllByRecursion IsPair (listed ++ pair ∷ [])
+pairs-push [] pair all h = (h, tt)
+pairs-push (other ∷ listed) pair all h = (all.0, pairs-push listed pair all.1 h)
+
+pub pushed : (failed : Bool) (listed next : List (ℕ × ℕ)) (bytes after more : List ℕ) (specification : ℕ) (old : Option (List (ℕ × List ℕ)))
+    → failed ≡ false → columns_written failed listed bytes ≡ old → IsCollecting failed listed bytes → IfSome old (IsAbove specification)
+    → specification < 2 ^ 64 → length more < 2 ^ 64 → next ≡ listed ++ (specification, length more) ∷ [] → after ≡ bytes ++ more
+    → IsCollecting false next after × IfSome old (λ columns. ◌≡◌ {A = Option (List (ℕ × List ℕ))} (Some (cut next after)) (Some (columns ++ (specification, more) ∷ [])))
+pushed true listed next bytes after more specification old f v h a m n e g = absurd (cc f)
+pushed false listed next bytes after more specification old f v h a m n e g =
     let above : IsAbove specification (cut listed bytes) = subst (λ o. IfSome o (IsAbove specification)) (sym v) a in
     let size : total next ≡ length after = omega (arith, ap total e, total-push listed specification (length more), ap length g, length-append bytes more, h.0) in
     let both : cut next after ≡ cut listed bytes ++ (specification, more) ∷ [] = ap (λ l. cut l after) e ∙ ap (cut (listed ++ (specification, length more) ∷ [])) g ∙ cut-push listed bytes more specification h.0 in
     let P : Option (List (ℕ × List ℕ)) → Type 0 = λ o. IfSome o (λ columns. ◌≡◌ {A = Option (List (ℕ × List ℕ))} (Some (cut next after)) (Some (columns ++ (specification, more) ∷ []))) in (
-      (size, subst Ascend (sym e) (Ascend-push listed bytes specification (length more) h.1 above), h.2),
+      (size, subst Ascend (sym e) (Ascend-push listed bytes specification (length more) h.1 above), subst (AllByRecursion IsPair) (sym e) (pairs-push listed (specification, length more) h.2 (m, n))),
       subst P v (ap Some both),
     )
 
@@ -41,22 +45,31 @@ Ascend-not_empty [] h = tt
 Ascend-not_empty ((specification, []) ∷ columns) h = Ascend-from specification (listing (not_empty columns)) (AscendFrom-not_empty specification columns h)
 Ascend-not_empty ((specification, (byte ∷ bytes)) ∷ columns) h = AscendFrom-not_empty specification columns h
 
+pairs-not_empty : (columns : List (ℕ × List ℕ)) → AllByRecursion IsPair (listing columns) → AllByRecursion IsPair (listing (not_empty columns))
+pairs-not_empty [] h = tt
+pairs-not_empty ((specification, []) ∷ columns) h = pairs-not_empty columns h.1
+pairs-not_empty ((specification, (byte ∷ bytes)) ∷ columns) h = (h.0, pairs-not_empty columns h.1)
+
 pub record Finished (columns : List (ℕ × List ℕ)) (metadata_bytes body_bytes : List ℕ) : Type 0 where
   pub metadata_are : metadata_bytes ≡ metadata (listing (not_empty columns))
   pub body_are : body_bytes ≡ body (not_empty columns)
   pub ascending : Ascend (listing (not_empty columns))
+  pub listed : AreListed (listing (not_empty columns))
 
 pub finished : (failed : Bool) (listed lent : List (ℕ × ℕ)) (bytes before written : List ℕ) (columns : Option (List (ℕ × List ℕ)))
-    → failed ≡ false → columns_written failed listed bytes ≡ columns → IsCollecting failed listed bytes before
-    → lent ≡ listed → written ≡ before ++ uleb (count_by has_length lent) ++ flat_map entry_bytes lent
+    → failed ≡ false → columns_written failed listed bytes ≡ columns → IsCollecting failed listed bytes → before ≡ []
+    → count_by has_length lent < 2 ^ 64 → lent ≡ listed → written ≡ before ++ uleb (count_by has_length lent) ++ flat_map entry_bytes lent
     → IfSome columns (λ columns. Finished columns written bytes)
-finished true listed lent bytes before written columns f v h l e = absurd (cc f)
-finished false listed lent bytes before written columns f v h l e =
+finished true listed lent bytes before written columns f v h b few l e = absurd (cc f)
+finished false listed lent bytes before written columns f v h b few l e =
+    let same : listing (cut listed bytes) ≡ listed = listing-cut listed bytes (omega (arith, h.0)) in
+    let count : count_by has_length lent ≡ length (listing (not_empty (cut listed bytes))) = ap (count_by has_length) (l ∙ sym same) ∙ count-entries (cut listed bytes) in
     let P : Option (List (ℕ × List ℕ)) → Type 0 = λ o. IfSome o (λ columns. Finished columns written bytes) in
     subst P v (record {
-      metadata_are = e ∙ ap (λ z. before ++ uleb (count_by has_length z) ++ flat_map entry_bytes z) l ∙ metadata_written listed bytes before h.0 h.2;
+      metadata_are = e ∙ ap (λ z. before ++ uleb (count_by has_length z) ++ flat_map entry_bytes z) l ∙ metadata_written listed bytes before h.0 b;
       body_are = sym (body-cut listed bytes h.0) ∙ sym (body-not_empty (cut listed bytes));
-      ascending = Ascend-not_empty (cut listed bytes) (subst Ascend (sym (listing-cut listed bytes (omega (arith, h.0)))) h.1);
+      ascending = Ascend-not_empty (cut listed bytes) (subst Ascend (sym same) h.1);
+      listed = (subst (λ n. n < 2 ^ 64) count few, pairs-not_empty (cut listed bytes) (subst (AllByRecursion IsPair) (sym same) h.2));
     })
 
 pub if_some : {A : Type 0} {P Q : A → Type 0} (o : Option A) → ((x : A) → P x → Q x) → IfSome o P → IfSome o Q

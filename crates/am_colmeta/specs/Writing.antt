@@ -1,7 +1,7 @@
 -- The state of a writer of columns, and what it writes of a column.
 use Rattle.std.specs.Prelude.{◌≡◌, ℕ, ◌<◌, List, [], length, Bool, true, false, Option, Some, None, nat_lt, if◌then◌else◌}
 use Rattle.std.specs.List.{AllByRecursion}
-use Rattle.am_colmeta.specs.Metadata.{pair_bytes, total, Ascend}
+use Rattle.am_colmeta.specs.Metadata.{pair_bytes, total, Ascend, IsPair}
 use Rattle.am_colmeta.specs.Reading.{cut}
 
 -- The specification is above those of the columns.
@@ -20,7 +20,7 @@ abbrev pub columns_written : Bool → List (ℕ × ℕ) → List ℕ → Option 
 columns_written true listed bytes = None
 columns_written false listed bytes = Some (cut listed bytes)
 
--- The lengths are those of the bytes, and nothing is written of the metadata yet.
-abbrev pub IsCollecting : Bool → List (ℕ × ℕ) → List ℕ → List ℕ → Type 0
-IsCollecting true listed bytes metadata = Unit {0}
-IsCollecting false listed bytes metadata = (total listed ≡ length bytes) × Ascend listed × (metadata ≡ [])
+-- The lengths are those of the bytes, the specifications ascend, and the numbers fit 64 bits.
+abbrev pub IsCollecting : Bool → List (ℕ × ℕ) → List ℕ → Type 0
+IsCollecting true listed bytes = Unit {0}
+IsCollecting false listed bytes = (total listed ≡ length bytes) × Ascend listed × AllByRecursion IsPair listed

@@ -1,8 +1,8 @@
 //! Writing columns and their metadata.
-ghost use Rattle.std.specs.Prelude.{◌≡◌, ◌++◌, ◌∷◌, [], Some, None, count_by, IfOk, IfSome, IfNone, OnOk, OnErr, IsErr};
+ghost use Rattle.std.specs.Prelude.{◌≡◌, ◌<◌, ◌^◌, ◌++◌, ◌∷◌, [], Some, None, count_by, IfOk, IfSome, IfNone, OnOk, OnErr, IsErr};
 ghost use Rattle.std.specs.List.{flat_map};
 ghost use Rattle.am_leb.specs.Leb.{uleb};
-ghost use Rattle.am_colmeta.specs.Metadata.{metadata, listing, body, not_empty, Ascend};
+ghost use Rattle.am_colmeta.specs.Metadata.{metadata, listing, body, not_empty, Ascend, AreListed};
 ghost use Rattle.am_colmeta.specs.Writing.{IsAbove, has_length, entry_bytes};
 
 use am_leb::push_u;
@@ -30,7 +30,8 @@ fn push_entry(out: &mut Vec<u8>, column: (u64, u64)) -> Result<(), AllocError>
 
 // Appends the metadata of the columns that are not empty.
 fn push_metadata(out: &mut Vec<u8>, columns: &[(u64, u64)]) -> Result<(), AllocError>
-    ensures { OnOk result (out.new.items ≡ out.old.items ++ uleb (count_by has_length columns.now) ++ flat_map entry_bytes columns.now) }
+    ensures written { OnOk result (out.new.items ≡ out.old.items ++ uleb (count_by has_length columns.now) ++ flat_map entry_bytes columns.now) }
+    ensures few { OnOk result (count_by has_length columns.now < 2 ^ 64) }
 {
     push_u(out, count_of(columns))?;
     for column in columns {
@@ -45,8 +46,8 @@ fn push_metadata(out: &mut Vec<u8>, columns: &[(u64, u64)]) -> Result<(), AllocE
 pub struct ColumnWriter {
     columns: Vec<(u64, u64)>,
     body: Vec<u8>,
-    metadata: Vec<u8>,
     failed: bool,
+    alloc: Global,
 }
 
 impl Model for ColumnWriter {
@@ -58,7 +59,7 @@ impl Model for ColumnWriter {
 
     ghost view = { λ writer. columns_written writer.failed writer.columns.items writer.body.items };
 
-    ghost invariant = { λ writer. IsCollecting writer.failed writer.columns.items writer.body.items writer.metadata.items };
+    ghost invariant = { λ writer. IsCollecting writer.failed writer.columns.items writer.body.items };
 }
 
 impl ColumnWriter {
@@ -69,8 +70,8 @@ impl ColumnWriter {
         ColumnWriter {
             columns: Vec::new(alloc),
             body: Vec::new(alloc),
-            metadata: Vec::new(alloc),
             failed: false,
+            alloc,
         }
     }
 
@@ -91,17 +92,19 @@ impl ColumnWriter {
         Ok(())
     }
 
-    /// The metadata and the body of the columns. A column without bytes isn't listed.
+    /// The metadata and the body of the columns. A column without bytes isn't listed. `ColumnList::read` reads the
+    /// metadata back.
     pub fn finish(self) -> Result<(Bytes, Bytes), AllocError>
         ensures failed { IfNone self (IsErr result) }
         ensures metadata { IfOk result (λ written. IfSome self (λ columns. written.0 ≡ metadata (listing (not_empty columns)))) }
         ensures body { IfOk result (λ written. IfSome self (λ columns. written.1 ≡ body (not_empty columns))) }
         ensures ascend { IfOk result (λ _. IfSome self (λ columns. Ascend (listing (not_empty columns)))) }
+        ensures listed { IfOk result (λ _. IfSome self (λ columns. AreListed (listing (not_empty columns)))) }
     {
         if self.failed {
             return Err(AllocError);
         }
-        let mut metadata = self.metadata;
+        let mut metadata = Vec::new(self.alloc);
         push_metadata(&mut metadata, &self.columns)?;
         Ok((Bytes::from(metadata), Bytes::from(self.body)))
     }

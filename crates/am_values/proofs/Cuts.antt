@@ -1,5 +1,5 @@
 -- Values cut out of raw bytes by their numbers: one at a time, many at once, and what is spelled is cut out again.
-use Rattle.std.proofs.Common.{◌≡◌, ℕ, suc, zero, ◌+◌, ◌/◌, ◌%◌, ◌-◌, ◌≤◌, List, [], ◌∷◌, ◌++◌, length, take, drop, map, Option, Some, None, inr, ◌⊎◌, ⊎_elim, ◌↔◌, refl, sym, ap, ◌∙◌, subst, arith, length-append}
+use Rattle.std.proofs.Common.{◌≡◌, ℕ, suc, zero, ◌+◌, ◌*◌, ◌/◌, ◌%◌, ◌-◌, ◌≤◌, List, [], ◌∷◌, ◌++◌, length, take, drop, map, Option, Some, None, inr, ◌⊎◌, ⊎_elim, ◌↔◌, refl, sym, ap, ◌∙◌, subst, arith, length-append}
 use Rattle.std.specs.Prelude.{replicate}
 use Rattle.std.specs.Option.{option_map}
 use Rattle.std.specs.List.{flat_map}
@@ -36,9 +36,6 @@ first_is x (suc k) (y ∷ l) h e =
     let q : y ≡ x = cc in
     let t : take k l ≡ replicate k x = cc in
     (l, ap (λ z. z ∷ l) q, subst (λ n. take n l ≡ replicate n x) (let s : k ≡ suc k - 1 = omega arith in s) t)
-
-pub first_must : (x : Option ℕ) (k : ℕ) (list : List (Option ℕ)) (raw : List ℕ) → 1 ≤ k → take k list ≡ replicate k x → AreCut list raw → IsCut x raw
-first_must x k list raw h e c = let w = first_is x k list h e in first_cut x w.0 raw (subst (λ l. AreCut l raw) w.1 c)
 
 -- past j alike
 pub cut_many : (j k : ℕ) (x : Option ℕ) (list : List (Option ℕ)) (raw rest : List ℕ) → 1 ≤ j → j ≤ k → (j ≡ 1) ⊎ (width x ≡ 0) → take k list ≡ replicate k x → IsCut x raw → rest ≡ drop (width x) raw → AreCut (drop j list) rest ↔ AreCut list raw
@@ -113,23 +110,37 @@ values_one : (x : Option ℕ) (list : List (Option ℕ)) (raw rest : List ℕ) �
 values_one None list raw rest e = ap (values_from list) (sym e)
 values_one (Some m) list raw rest e = ap (values_from list) (sym e)
 
-values_many : (j k : ℕ) (x : Option ℕ) (list : List (Option ℕ)) (raw rest : List ℕ) → 1 ≤ j → j ≤ k → (j ≡ 1) ⊎ (width x ≡ 0) → take k list ≡ replicate k x → rest ≡ drop (width x) raw → drop j (values_from list raw) ≡ values_from (drop j list) rest
-values_many zero k x list raw rest g h o e r = absurd (omega arith)
-values_many (suc zero) k x list raw rest g h o e r =
-    let w = first_is x k list (omega arith) e in
-    subst (λ l. drop 1 (values_from l raw) ≡ values_from (drop 1 l) rest) (sym w.1) (values_one x w.0 raw rest r)
-values_many (suc (suc j)) k x list raw rest g h o e r =
-    let w = first_is x k list (omega arith) e in
-    let z : width x ≡ 0 = ⊎_elim (λ p. absurd (omega arith)) (λ p. p) o in
-    let again : rest ≡ drop (width x) rest = sym (ap (λ n. drop n rest) z) in
-    let more = values_many (suc j) (k - 1) x w.0 rest rest (omega arith) (omega arith) (inr z) w.2 again in
-    subst (λ l. drop (suc (suc j)) (values_from l raw) ≡ values_from (drop (suc (suc j)) l) rest) (sym w.1)
-    (ap (λ m. drop m (values_from (x ∷ w.0) raw)) (let q : suc (suc j) ≡ 1 + suc j = omega arith in q) ∙ sym (drop-drop (suc j) 1 (values_from (x ∷ w.0) raw)) ∙ ap (drop (suc j)) (values_one x w.0 raw rest r) ∙ more)
+width_within : (x : Option ℕ) (raw : List ℕ) → IsCut x raw → width x ≤ length raw
+width_within None raw h = omega arith
+width_within (Some m) raw h = h.0
 
-pub skips : (j k n all : ℕ) (x : Option ℕ) (list first : List (Option ℕ)) (raw rest start : List ℕ) → 1 ≤ j → j ≤ k → j ≤ n → (j ≡ 1) ⊎ (width x ≡ 0) → take k list ≡ replicate k x → rest ≡ drop (width x) raw → AreCut list raw → drop n (values_from list raw) ≡ drop all (values_from first start)
+-- past j alike, each of the same width
+pub past_many : (j k : ℕ) (x : Option ℕ) (list : List (Option ℕ)) (raw : List ℕ) → j ≤ k → take k list ≡ replicate k x → AreCut list raw
+    → (j * width x ≤ length raw) × AreCut (drop j list) (drop (j * width x) raw) × (drop j (values_from list raw) ≡ values_from (drop j list) (drop (j * width x) raw))
+past_many zero k x list raw h e c =
+    let none : raw ≡ drop (0 * width x) raw = ap (λ n. drop n raw) (let z : 0 ≡ 0 * width x = omega arith in z) in
+    (omega arith, subst (AreCut list) none c, ap (values_from list) none)
+past_many (suc j) k x list raw h e c =
+    let w = first_is x k list (omega arith) e in
+    let whole : AreCut (x ∷ w.0) raw = subst (λ l. AreCut l raw) w.1 c in
+    let here : IsCut x raw = first_cut x w.0 raw whole in
+    let behind : List ℕ = drop (width x) raw in
+    let more = past_many j (k - 1) x w.0 behind (omega arith) w.2 ((cut_one x w.0 raw behind here refl).1 whole) in
+    let size : width x + j * width x ≡ suc j * width x = omega arith in
+    let all : drop (j * width x) behind ≡ drop (suc j * width x) raw = drop-drop (j * width x) (width x) raw ∙ ap (λ n. drop n raw) size in
+    let fits : suc j * width x ≤ length raw = omega (arith, size, more.0, width_within x raw here, length-drop (width x) raw) in
+    let values : drop (suc j) (values_from (x ∷ w.0) raw) ≡ values_from (drop j w.0) (drop (suc j * width x) raw) =
+    ap (λ m. drop m (values_from (x ∷ w.0) raw)) (let q : suc j ≡ 1 + j = omega arith in q) ∙ sym (drop-drop j 1 (values_from (x ∷ w.0) raw)) ∙ ap (drop j) (values_one x w.0 raw behind refl)
+    ∙ more.2 ∙ ap (values_from (drop j w.0)) all in (
+      fits,
+      subst (λ l. AreCut (drop (suc j) l) (drop (suc j * width x) raw)) (sym w.1) (subst (AreCut (drop j w.0)) all more.1),
+      subst (λ l. drop (suc j) (values_from l raw) ≡ values_from (drop (suc j) l) (drop (suc j * width x) raw)) (sym w.1) values,
+    )
+
+pub skips : (j k n all : ℕ) (x : Option ℕ) (list first : List (Option ℕ)) (raw rest start : List ℕ) → j ≤ k → j ≤ n → take k list ≡ replicate k x → rest ≡ drop (j * width x) raw → AreCut list raw → drop n (values_from list raw) ≡ drop all (values_from first start)
     → AreCut (drop j list) rest × (drop (n - j) (values_from (drop j list) rest) ≡ drop all (values_from first start))
-skips j k n all x list first raw rest start g h i o e r c d =
-    let one = first_must x k list raw (omega arith) e c in (
-      (cut_many j k x list raw rest g h o e one r).1 c,
-      ap (drop (n - j)) (sym (values_many j k x list raw rest g h o e r)) ∙ drop-drop (n - j) j (values_from list raw) ∙ ap (λ m. drop m (values_from list raw)) (let q : j + (n - j) ≡ n = omega arith in q) ∙ d,
+skips j k n all x list first raw rest start h i e r c d =
+    let w = past_many j k x list raw h e c in (
+      subst (AreCut (drop j list)) (sym r) w.1,
+      ap (λ l. drop (n - j) (values_from (drop j list) l)) r ∙ ap (drop (n - j)) (sym w.2) ∙ drop-drop (n - j) j (values_from list raw) ∙ ap (λ m. drop m (values_from list raw)) (let q : j + (n - j) ≡ n = omega arith in q) ∙ d,
     )

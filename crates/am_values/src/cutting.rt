@@ -1,5 +1,5 @@
 //! Cutting values out of the raw bytes by their numbers.
-ghost use Rattle.std.specs.Prelude.{◌≡◌, ◌≤◌, ◌⊎◌, ◌↔◌, take, drop, IfSome, IfNone, IsTrue};
+ghost use Rattle.std.specs.Prelude.{◌≡◌, ◌≤◌, ◌*◌, ◌⊎◌, ◌↔◌, length, take, drop, IfSome, IfNone, IsTrue};
 ghost use Rattle.am_values.specs.Cutting.{AreCut, IsCut, width, values_from};
 
 use crate::good::is_good;
@@ -51,7 +51,7 @@ fn steps(number: Option<u64>, count: u64) -> u64
 }
 
 // Whether the raw bytes are just those of the values, and each value is good. It takes no more steps than there are
-// runs and raw bytes.
+// bytes in both columns.
 pub fn are_cut(mut numbers: UnsignedCursor<'_>, raw: &[u8]) -> bool
     ensures { IsTrue result ↔ AreCut numbers.entry raw.now }
 {
@@ -67,17 +67,19 @@ pub fn are_cut(mut numbers: UnsignedCursor<'_>, raw: &[u8]) -> bool
     rest.is_empty()
 }
 
-// The raw bytes behind the next value.
-fn past<'a>(number: Option<u64>, raw: &'a [u8]) -> &'a [u8]
-    ensures { result.now ≡ drop (width number) raw.now }
+// The raw bytes behind the next values, which are as long as one another.
+fn past<'a>(number: Option<u64>, count: u64, raw: &'a [u8]) -> &'a [u8]
+    requires fits { count * width number ≤ length raw.now }
+    ensures behind { result.now ≡ drop (count * width number) raw.now }
 {
     match number {
         None => raw,
-        Some(number) => cut(number / 16, raw).1,
+        Some(number) => cut(count * (number / 16), raw).1,
     }
 }
 
-// Leaves out the next numbers, and gives the raw bytes behind their values.
+// Leaves out the next numbers, and gives the raw bytes behind their values. It takes a step for each run, or for each
+// item where they are listed one by one.
 pub fn skipped<'a>(numbers: &mut UnsignedCursor<'_>, raw: &'a [u8], n: u64) -> &'a [u8]
     requires { AreCut numbers.old raw.now }
     ensures cut { AreCut numbers.new result.now }
@@ -89,8 +91,8 @@ pub fn skipped<'a>(numbers: &mut UnsignedCursor<'_>, raw: &'a [u8], n: u64) -> &
         match numbers.like() {
             None => return rest,
             Some((number, count)) => {
-                let step = steps(number, count.min(n));
-                rest = past(number, rest);
+                let step = count.min(n);
+                rest = past(number, step, rest);
                 numbers.skip(step);
                 n -= step;
             }

@@ -10,10 +10,7 @@ use std::str::from_utf8;
 fn is_text(raw: &[u8]) -> bool
     ensures { IsTrue result ↔ IsUtf8 raw.now }
 {
-    match from_utf8(raw) {
-        Ok(_) => true,
-        Err(_) => false,
-    }
+    from_utf8(raw).is_ok()
 }
 
 // Whether the raw bytes are those that the kind allows.
