@@ -1,0 +1,5 @@
+pub mod Graphs
+pub mod Reaches
+pub mod Clocks
+pub mod Whole
+pub mod Walks

@@ -1,0 +1,238 @@
+//! Changes, without their operations, in the order in which they came.
+ghost use Rattle.std.specs.Prelude.{◌≡◌, ◌++◌, ◌∷◌, ◌≤◌, ◌+◌, ◌^◌, [], length, List, IfOk, OnOk, OnErr, IfErr, All, true, false, Some, None, if◌then◌else◌};
+ghost use Rattle.am_types.specs.Members.{hashes, holds, heads as heads_of};
+ghost use Rattle.am_types.specs.Ancestors.{ancestors};
+ghost use Rattle.am_types.specs.Order.{hash_cmp, sorted_by, Ascends};
+ghost use Rattle.am_graph.specs.Graphs.{nodes, find_node, is_held, missing, ForSet, has, TellsAncestors, is_named_in, MatchFault, MatchMissing, Answers};
+ghost use Rattle.am_types.specs.declared.Hash.{Hash};
+
+use crate::fault::{Added, ClockFault, GraphFault};
+use crate::node::Node;
+use crate::parts::Parts;
+use am_types::{ActorId, Hash, List, Twin};
+use std::alloc::{AllocError, AllocFailed, Global};
+use std::collections::HashSet;
+use std::marker::Model;
+
+/// A closed set of changes, each beside its hash, which contracts see as the list of them in the order in which they came.
+#[derive(Drop)]
+pub struct Graph {
+    pub(crate) parts: Parts,
+}
+
+impl Model for Graph {
+    ghost use Rattle.std.specs.Prelude.{List};
+    ghost use Rattle.am_types.specs.declared.Hash.{Hash};
+    ghost use Rattle.am_graph.specs.declared.node.Node.{Node};
+    ghost use Rattle.am_graph.specs.Whole.{IsWhole};
+
+    ghost Value = { List (Hash × Node) };
+
+    ghost view = { λ g. g.parts.held.entries };
+
+    ghost invariant = { λ g. IsWhole g.parts };
+}
+
+impl Graph {
+    /// A graph of no changes.
+    pub fn new(alloc: Global) -> Self
+        ensures { result ≡ [] }
+    {
+        Graph {
+            parts: Parts::new(alloc),
+        }
+    }
+
+    /// Whether this is the hash of a change of the graph.
+    pub fn holds(&self, hash: &Hash) -> bool
+        ensures graph { result ≡ is_held self.now hash.now }
+        ensures set { ForSet self.now (λ C. result ≡ holds C hash.now) }
+    {
+        self.parts.held.contains_key(hash)
+    }
+
+    /// Adds a change, whose dependencies must be held.
+    pub fn add(
+        &mut self,
+        alloc: Global,
+        hash: Hash,
+        actor: &ActorId,
+        seq: u64,
+        start: u64,
+        count: u64,
+        deps: &[Hash],
+    ) -> Result<Added, GraphFault>
+        requires deps_ascend { Ascends hash_cmp deps.now }
+        requires start { 1 ≤ start }
+        requires end { start + count ≤ 2 ^ 53 }
+        ensures ok { OnOk result (self.new ≡ (if is_held self.old hash then self.old else self.old ++ (hash, record { actor = actor.now; seq = seq; start = start; count = count; deps = deps.now }) ∷ [])) }
+        ensures complete { OnOk result (is_held self.old hash ≡ false → missing self.old deps.now ≡ None) }
+        ensures err { OnErr result (self.new ≡ self.old) }
+        ensures missing { IfErr result (λ fault. MatchMissing fault (λ h. (is_held self.old hash ≡ false) × (missing self.old deps.now ≡ Some h))) }
+    {
+        if self.holds(&hash) {
+            return Ok(self.compared(&hash, actor, seq, start, count, deps));
+        }
+        if let Some(dep) = self.first_missing(deps) {
+            return Err(GraphFault::MissingDep(dep));
+        }
+        let actor = actor.copy(alloc)?;
+        let deps = listed(alloc, deps)?;
+        let node = Node {
+            actor,
+            seq,
+            start,
+            count,
+            deps,
+        };
+        self.join(alloc, hash, node)?;
+        Ok(Added::New)
+    }
+
+    /// What is answered where the hash is held.
+    fn compared(
+        &self,
+        hash: &Hash,
+        actor: &ActorId,
+        seq: u64,
+        start: u64,
+        count: u64,
+        deps: &[Hash],
+    ) -> Added {
+        match self.parts.held.get(hash) {
+            None => Added::New,
+            Some(held) => {
+                let same = held.actor.as_slice() == actor.as_slice()
+                    && held.seq == seq
+                    && held.start == start
+                    && held.count == count
+                    && held.deps.as_slice() == deps;
+                if same { Added::Same } else { Added::Clash }
+            }
+        }
+    }
+
+    /// The first of these hashes that is not held.
+    fn first_missing(&self, hashes: &[Hash]) -> Option<Hash>
+        ensures { result ≡ missing self.now hashes.now }
+    {
+        for hash in hashes {
+            if !self.parts.held.contains_key(hash) {
+                return Some(*hash);
+            }
+        }
+        None
+    }
+
+    /// Adds a change at the end.
+    fn join(&mut self, alloc: Global, hash: Hash, node: Node) -> Result<(), AllocError>
+        requires fresh { is_held self.old hash ≡ false }
+        requires deps { missing self.old node.deps ≡ None }
+        requires start { 1 ≤ node.start }
+        requires end { node.start + node.count ≤ 2 ^ 53 }
+        ensures ok { OnOk result (self.new ≡ self.old ++ (hash, node) ∷ []) }
+        ensures err { OnErr result (self.new ≡ self.old) }
+    {
+        let author = self.parts.number(alloc, node.actor.as_slice())?;
+        let mark = self.parts.mark(alloc, &node, author)?;
+        self.parts.join(hash, node, mark)?;
+        Ok(())
+    }
+
+    /// The hashes that no change has as a dependency, ascending.
+    pub fn heads(&self, alloc: Global) -> Result<List<Hash>, AllocError>
+        ensures { IfOk result (λ found. ForSet self.now (λ C. found ≡ heads_of C)) }
+    {
+        let named = self.named(alloc)?;
+        let mut found: Vec<Hash> = Vec::new(alloc);
+        for i in 0..self.parts.held.len() {
+            let (hash, _) = self.parts.held.get_index(i).unwrap();
+            let is_head = !named.contains(hash);
+            pick(&mut found, *hash, is_head)?;
+        }
+        found.sort_unstable();
+        Ok(listed(alloc, found.as_slice())?)
+    }
+
+    /// The hashes that a change has as a dependency.
+    fn named(&self, alloc: Global) -> Result<HashSet<Hash>, AllocError>
+        ensures { IfOk result (λ named. (h : Hash) → has named h ≡ is_named_in self.now h) }
+    {
+        let mut named: HashSet<Hash> = HashSet::new(alloc);
+        for i in 0..self.parts.held.len() {
+            let (_, node) = self.parts.held.get_index(i).unwrap();
+            for dep in node.deps.as_slice() {
+                named.insert(*dep)?;
+            }
+        }
+        Ok(named)
+    }
+
+    /// The hashes of the ancestors of these, ascending.
+    pub fn ancestors(&self, alloc: Global, heads: &[Hash]) -> Result<List<Hash>, ClockFault>
+        ensures ok { IfOk result (λ found. ForSet self.now (λ C. found ≡ sorted_by hash_cmp (hashes (ancestors C heads.now)))) }
+        ensures held { OnOk result (All (λ h. is_held self.now h ≡ true) heads.now) }
+        ensures unknown { IfErr result (λ fault. MatchFault fault (λ h. missing self.now heads.now ≡ Some h)) }
+    {
+        let wanted = self.wanted(alloc, heads)?;
+        let mut found: Vec<Hash> = Vec::new(alloc);
+        for i in 0..self.parts.held.len() {
+            let (hash, _) = self.parts.held.get_index(i).unwrap();
+            let is_wanted = wanted.contains(hash);
+            pick(&mut found, *hash, is_wanted)?;
+        }
+        found.sort_unstable();
+        Ok(listed(alloc, found.as_slice())?)
+    }
+
+    /// The hashes of the ancestors.
+    fn wanted(&self, alloc: Global, heads: &[Hash]) -> Result<HashSet<Hash>, ClockFault>
+        ensures ok { IfOk result (λ wanted. TellsAncestors self.now heads.now (has wanted)) }
+        ensures held { OnOk result (All (λ h. is_held self.now h ≡ true) heads.now) }
+        ensures unknown { IfErr result (λ fault. MatchFault fault (λ h. missing self.now heads.now ≡ Some h)) }
+    {
+        let mut wanted: HashSet<Hash> = HashSet::new(alloc);
+        for head in heads {
+            if !self.parts.held.contains_key(head) {
+                return Err(ClockFault::UnknownHead(*head));
+            }
+            match wanted.insert(*head) {
+                Ok(_) => {}
+                Err(_) => return Err(ClockFault::NoMemory),
+            }
+        }
+        for i in (0..self.parts.held.len()).rev() {
+            if let Some((hash, node)) = self.parts.held.get_index(i) {
+                if wanted.contains(hash) {
+                    for dep in node.deps.as_slice() {
+                        match wanted.insert(*dep) {
+                            Ok(_) => {}
+                            Err(_) => return Err(ClockFault::NoMemory),
+                        }
+                    }
+                }
+            }
+        }
+        Ok(wanted)
+    }
+}
+
+/// Adds a hash that is picked.
+fn pick(found: &mut Vec<Hash>, hash: Hash, is_picked: bool) -> Result<(), AllocError>
+    ensures { OnOk result (found.new.items ≡ found.old.items ++ (if is_picked then hash ∷ [] else [])) }
+{
+    if is_picked {
+        found.push(hash)?;
+    }
+    Ok(())
+}
+
+fn listed(alloc: Global, hashes: &[Hash]) -> Result<List<Hash>, AllocError>
+    ensures { IfOk result (λ list. list ≡ hashes.now) }
+{
+    let mut list = List::new(alloc);
+    for hash in hashes {
+        list.push(*hash)?;
+    }
+    Ok(list)
+}
