@@ -1,0 +1,5 @@
+pub mod Passing
+pub mod Laws
+pub mod Sequences
+pub mod Chains
+pub mod Walks

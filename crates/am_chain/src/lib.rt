@@ -1,0 +1,13 @@
+//! The elements of a list, as nodes that are linked in their order.
+#![tactic(auto)]
+
+mod chain;
+mod laws;
+mod node;
+#[cfg(test)]
+mod tests;
+mod walk;
+
+pub use chain::Chain;
+pub use laws::order_is_free;
+pub use walk::Walk;
