@@ -12,7 +12,7 @@ use Rattle.std.proofs.lemmas.Map.Lookups.{exact_bytes}
 use Rattle.am_types.specs.Records.{Hash}
 use Rattle.am_types.specs.Order.{bytes_cmp, hash_cmp, among, sorted_by}
 use Rattle.am_types.specs.Same.{same_bytes}
-use Rattle.am_types.specs.Operations.{operations, all_operations, DistinctIds}
+use Rattle.am_types.specs.Operations.{operations, all_operations, OneOperationPerId}
 use Rattle.am_types.specs.Members.{Member, changes, hashes, is_dependency, heads}
 use Rattle.am_types.specs.ValidSets.{Valid}
 use Rattle.am_types.specs.Canonical.{depth, canonical_cmp, order}
@@ -82,15 +82,15 @@ used_actors-permutation C D p =
 pub operations-permutation : (C D : List Member) → IsPermutation C D → IsPermutation (all_operations (changes C)) (all_operations (changes D))
 operations-permutation C D p = IsPermutation-flat_map operations (changes C) (changes D) (IsPermutation-map (λ (m : Member). m.change) C D p)
 
-pub distinct_ids_valid : (C : List Member) → Valid C → DistinctIds (all_operations (changes C))
-distinct_ids_valid C v = distinct_ids_of C (grounds_valid C v).facts
+pub one_per_id : (C : List Member) → Valid C → OneOperationPerId (all_operations (changes C))
+one_per_id C v = distinct_ids_of C (grounds_valid C v).facts
 
 -- ---- all that is read off a set
 
 pub reads_alike : (C D : List Member) → Valid C → IsPermutation C D → ReadsAlike C D
 unfolding table
 reads_alike C D v p =
-    let distinct = distinct_ids_valid C v in
+    let distinct = one_per_id C v in
     let same = operations-permutation C D p in
     let rows_same = rows-permutation (all_operations (changes C)) (all_operations (changes D)) distinct same in
     let order_same = order-permutation C D (grounds_valid C v).facts p in

@@ -25,6 +25,8 @@ use Rattle.am_types.proofs.Parts.{elements_part}
 use Rattle.am_types.proofs.Covered.{operations_part, anchored}
 use Rattle.am_types.proofs.ValidSetLaws.{grounds_valid}
 use Rattle.am_types.proofs.DistinctIds.{ancestor_is_member}
+use Rattle.am_types.proofs.DistinctOperations.{distinct_ids_valid}
+use Rattle.am_types.proofs.Rules.{keeps_rules}
 use Rattle.am_types.specs.Elements.{elements}
 
 pub orders_are_strict : law.OrdersAreStrict
@@ -74,13 +76,16 @@ pub fits_exactly : law.FitsExactly
 fits_exactly C c = (fits_by C c, fits_from C c)
 
 pub ids_are_distinct : law.IdsAreDistinct
-ids_are_distinct = listing.distinct_ids_valid
+ids_are_distinct = distinct_ids_valid
+
+pub valid_sets_keep_rules : law.ValidSetsKeepRules
+valid_sets_keep_rules = keeps_rules
 
 pub settles_in_turn : law.SettlesInTurn
 settles_in_turn = record { goes_on = settle_taken; stays = settle_idle; ends = settle_settles }
 
 pub settling_keeps_order : law.SettlingKeepsOrder
-settling_keeps_order s turn waits = (settle_sound s (record { listed = turn; waiting = waits })).listed
+settling_keeps_order s distinct turn waits = (settle_sound s (record { listed = turn; waiting = waits })).listed
 
 pub listing_is_free : law.ListingIsFree
 listing_is_free = listing.reads_alike

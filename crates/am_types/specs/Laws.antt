@@ -1,5 +1,5 @@
 -- Laws over the definitions. Each is the contract of a function of the same name, which does nothing.
-use Rattle.std.specs.Prelude.{ℕ, ℤ, ◌+◌, ◌<◌, ◌^◌, ◌≡◌, ◌↔◌, false, List, [], ◌++◌, filter, map, Some, All, Contains, IsTrue, IsSorted, IsPermutation, FitsSigned, Bool}
+use Rattle.std.specs.Prelude.{ℕ, ℤ, ◌+◌, ◌<◌, ◌^◌, ◌≡◌, ◌↔◌, false, List, [], ◌++◌, filter, map, Some, None, All, Contains, IsTrue, IsSorted, IsPermutation, FitsSigned, Bool}
 use Rattle.std.specs.Int.{w64}
 use Rattle.std.specs.Cmp.{IsTotalOrder}
 use Rattle.std.specs.declared.cmp.Ordering.{Ordering}
@@ -10,12 +10,12 @@ use Rattle.am_types.specs.Records.{OpId, Hash, ObjId, Change, Fits}
 use Rattle.am_types.specs.Order.{id_cmp, hash_cmp, sorted_by}
 use Rattle.am_types.specs.Numbers.{unsigned_of, signed_of}
 use Rattle.am_types.specs.Same.{same_change}
-use Rattle.am_types.specs.Operations.{Operation, all_operations, ascending, DistinctIds}
-use Rattle.am_types.specs.Members.{Member, changes, holds, heads}
+use Rattle.am_types.specs.Operations.{Operation, all_operations, ascending, DistinctIds, OneOperationPerId}
+use Rattle.am_types.specs.Members.{Member, changes, holds, heads, IsClosed, DistinctHashes}
 use Rattle.am_types.specs.Ancestors.{ancestors, IsLeastPart}
-use Rattle.am_types.specs.Verdicts.{verdict, NoReasonApplies}
+use Rattle.am_types.specs.Verdicts.{verdict, limit_passed, NoReasonApplies}
 use Rattle.am_types.specs.ValidSets.{Valid, JoinInTurn}
-use Rattle.am_types.specs.Deliver.{Sets, settle, IsSettled, TakesOne, Waits}
+use Rattle.am_types.specs.Deliver.{Sets, settle, IsSettled, TakesOne, MayCome, Waits}
 use Rattle.am_types.specs.Elements.{elements, part, RespectsReferences}
 use Rattle.am_types.specs.Replay.{replay}
 use Rattle.am_types.specs.Rows.{rows}
@@ -40,11 +40,11 @@ pub record SortsOnce {X : Type 0} (cmp : X → X → Ordering) : Type 0 where
   pub in_order : (xs : List X) → IsSorted cmp (sorted_by cmp xs)
   pub once : (xs ys : List X) → IsPermutation xs ys → sorted_by cmp ys ≡ sorted_by cmp xs
 
--- sorting ids, hashes, and operations of which no two have one id
+-- sorting ids, hashes, and operations of which those with one id are one
 abbrev pub SortingIsFree : Type 0
 SortingIsFree =
     SortsOnce id_cmp × SortsOnce hash_cmp
-    × ((A B : List Operation) → DistinctIds A → IsPermutation A B → ascending B ≡ ascending A)
+    × ((A B : List Operation) → OneOperationPerId A → IsPermutation A B → ascending B ≡ ascending A)
 
 -- ---- values and changes
 
@@ -68,6 +68,17 @@ AncestorsAreLeast = (C : List Member) (hs : List Hash) → IsLeastPart C hs (anc
 abbrev pub FitsExactly : Type 0
 FitsExactly = (C : List Member) (c : Change) → (verdict C c ≡ Fits) ↔ NoReasonApplies C c
 
+-- what the members of a valid set are together
+pub record KeepsRules (C : List Member) : Type 0 where
+  pub closed : IsClosed C
+  pub hashes : DistinctHashes C
+  pub members : All MayCome C
+  pub limits : limit_passed (changes C) ≡ None
+
+-- a valid set is closed, its hashes are distinct, its members may come, and it is within the limits
+abbrev pub ValidSetsKeepRules : Type 0
+ValidSetsKeepRules = (C : List Member) → Valid C → KeepsRules C
+
 -- in a valid set no two operations have one id
 abbrev pub IdsAreDistinct : Type 0
 IdsAreDistinct = (C : List Member) → Valid C → DistinctIds (all_operations (changes C))
@@ -82,7 +93,8 @@ pub record SettlesInTurn : Type 0 where
 
 -- settling keeps that each closed change joins those before it
 abbrev pub SettlingKeepsOrder : Type 0
-SettlingKeepsOrder = (s : Sets) → JoinInTurn [] s.closed → All (Waits s.closed) s.waiting → JoinInTurn [] (settle s).closed
+SettlingKeepsOrder = (s : Sets) → DistinctHashes (s.closed ++ s.waiting) → JoinInTurn [] s.closed → All (Waits s.closed) s.waiting
+    → JoinInTurn [] (settle s).closed
 
 -- ---- what is read off a set
 

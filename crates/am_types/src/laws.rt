@@ -1,5 +1,5 @@
 //! Laws over the definitions. Each function does nothing; its contract is the law.
-ghost use Rattle.am_types.specs.Laws.{OrdersAreStrict, SortingIsFree, NumbersAreShortest, SameIsEqual, AncestorsAreLeast, FitsExactly, IdsAreDistinct, SettlesInTurn, SettlingKeepsOrder, ListingIsFree, DepthCounts, ElementsOfPart, AncestorsAreRead, AncestorsStay};
+ghost use Rattle.am_types.specs.Laws.{OrdersAreStrict, SortingIsFree, NumbersAreShortest, SameIsEqual, AncestorsAreLeast, FitsExactly, ValidSetsKeepRules, IdsAreDistinct, SettlesInTurn, SettlingKeepsOrder, ListingIsFree, DepthCounts, ElementsOfPart, AncestorsAreRead, AncestorsStay};
 
 /// Ids are totally ordered, hashes too, and only equal ones tie.
 #[tactic(auto, using(crate::proofs::Proved::orders_are_strict))]
@@ -37,18 +37,23 @@ pub fn fits_exactly()
     ensures { FitsExactly }
 {}
 
+/// A valid set is closed, no two of its members have one hash, each of them may come, and it is within the limits.
+pub fn valid_sets_keep_rules()
+    ensures { ValidSetsKeepRules }
+{}
+
 /// In a valid set no two operations have one id.
 pub fn ids_are_distinct()
     ensures { IdsAreDistinct }
 {}
 
-/// Settling admits the ready changes one by one, ends, and leaves none ready.
+/// Settling admits the ready changes one by one, the one of least hash first, ends, and leaves none ready.
 #[tactic(auto, using(crate::proofs::Proved::settles_in_turn))]
 pub fn settles_in_turn()
     ensures { SettlesInTurn }
 {}
 
-/// What settling leaves in the closed set joins one after the other, where it did before.
+/// What settling leaves in the closed set joins one after the other, where it did before and no hash comes twice.
 #[tactic(auto, using(crate::proofs::Proved::settling_keeps_order))]
 pub fn settling_keeps_order()
     ensures { SettlingKeepsOrder }
