@@ -26,6 +26,9 @@ pub mod ListingLaws
 pub mod SameMembers
 pub mod Rules
 pub mod DistinctOperations
+pub mod SharedAncestors
+pub mod LeastReady
+pub mod ReadsAlike
 pub mod Proved
 pub mod SampleHashes
 pub mod Samples

@@ -1,9 +1,9 @@
 -- Laws over the definitions. Each is the contract of a function of the same name, which does nothing.
-use Rattle.std.specs.Prelude.{ℕ, ℤ, ◌+◌, ◌<◌, ◌^◌, ◌≡◌, ◌↔◌, false, List, [], ◌++◌, filter, map, Some, None, All, Contains, IsTrue, IsSorted, IsPermutation, FitsSigned, Bool}
+use Rattle.std.specs.Prelude.{ℕ, ℤ, ◌+◌, ◌<◌, ◌^◌, ◌≡◌, ◌≢◌, ◌↔◌, false, List, [], ◌++◌, filter, map, Some, None, All, Contains, IsTrue, IsSorted, IsPermutation, FitsSigned, Bool}
 use Rattle.std.specs.Int.{w64}
 use Rattle.std.specs.Cmp.{IsTotalOrder}
 use Rattle.std.specs.declared.cmp.Ordering.{Ordering}
-use Rattle.std.specs.declared.cmp.Ordering.TheVariants.{Equal}
+use Rattle.std.specs.declared.cmp.Ordering.TheVariants.{Equal, Greater}
 use Rattle.am_leb.specs.Leb.{IsUleb, IsLeb}
 use Rattle.am_types.specs.Bytes.{IsBytes}
 use Rattle.am_types.specs.Records.{OpId, Hash, ObjId, Change, Fits}
@@ -11,7 +11,7 @@ use Rattle.am_types.specs.Order.{id_cmp, hash_cmp, sorted_by}
 use Rattle.am_types.specs.Numbers.{unsigned_of, signed_of}
 use Rattle.am_types.specs.Same.{same_change}
 use Rattle.am_types.specs.Operations.{Operation, all_operations, ascending, DistinctIds, OneOperationPerId}
-use Rattle.am_types.specs.Members.{Member, changes, holds, heads, IsClosed, DistinctHashes}
+use Rattle.am_types.specs.Members.{Member, changes, holds, holds_deps, heads, IsClosed, DistinctHashes}
 use Rattle.am_types.specs.Ancestors.{ancestors, IsLeastPart}
 use Rattle.am_types.specs.Verdicts.{verdict, limit_passed, NoReasonApplies}
 use Rattle.am_types.specs.ValidSets.{Valid, JoinInTurn}
@@ -64,6 +64,10 @@ SameIsEqual = (a b : Change) → IsTrue (same_change a b) ↔ (a ≡ b)
 abbrev pub AncestorsAreLeast : Type 0
 AncestorsAreLeast = (C : List Member) (hs : List Hash) → IsLeastPart C hs (ancestors C hs)
 
+-- the ancestors stand in the order in which the set lists them
+abbrev pub AncestorsKeepOrder : Type 0
+AncestorsKeepOrder = (C : List Member) (hs : List Hash) → ancestors C hs ≡ filter (λ m. holds (ancestors C hs) m.hash) C
+
 -- a change fits exactly where no reason against it applies
 abbrev pub FitsExactly : Type 0
 FitsExactly = (C : List Member) (c : Change) → (verdict C c ≡ Fits) ↔ NoReasonApplies C c
@@ -85,8 +89,15 @@ IdsAreDistinct = (C : List Member) → Valid C → DistinctIds (all_operations (
 
 -- ---- settling
 
--- settling admits the first ready change and goes on, leaves settled sets as they are, and leaves nothing ready
+-- first is a waiting member whose dependencies are held, and none of these has a lesser hash
+pub record IsLeastReady (s : Sets) (first : Member) : Type 0 where
+  pub waits : Contains s.waiting first
+  pub deps : IsTrue (holds_deps s.closed first.change)
+  pub least : (m : Member) → Contains s.waiting m → IsTrue (holds_deps s.closed m.change) → hash_cmp first.hash m.hash ≢ Greater
+
+-- settling admits the ready change of least hash and goes on, leaves settled sets as they are, and leaves nothing ready
 pub record SettlesInTurn : Type 0 where
+  pub takes_least : (s t : Sets) (taken : TakesOne s t) → IsLeastReady s taken.first
   pub goes_on : (s t : Sets) → TakesOne s t → settle s ≡ settle t
   pub stays : (s : Sets) → IsSettled s → settle s ≡ s
   pub ends : (s : Sets) → IsSettled (settle s)
@@ -98,6 +109,11 @@ SettlingKeepsOrder = (s : Sets) → DistinctHashes (s.closed ++ s.waiting) → J
 
 -- ---- what is read off a set
 
+-- two sets have the same ancestors of some hashes, and so the same is visible at these
+pub record SeesAlike (C D : List Member) (hs : List Hash) : Type 0 where
+  pub members : IsPermutation (ancestors C hs) (ancestors D hs)
+  pub visible : replay (all_operations (changes (ancestors D hs))) ≡ replay (all_operations (changes (ancestors C hs)))
+
 -- two listings give the same
 pub record ReadsAlike (C D : List Member) : Type 0 where
   pub elements : (o : ObjId) → elements (all_operations (changes D)) o ≡ elements (all_operations (changes C)) o
@@ -106,6 +122,7 @@ pub record ReadsAlike (C D : List Member) : Type 0 where
   pub heads : heads D ≡ heads C
   pub order : order D ≡ order C
   pub table : table D ≡ table C
+  pub at : (hs : List Hash) → SeesAlike C D hs
 
 -- what is read off a valid set doesn't depend on how it is listed
 abbrev pub ListingIsFree : Type 0
@@ -130,7 +147,11 @@ pub record ReadsOfAncestors (C : List Member) (hs : List Hash) : Type 0 where
 abbrev pub AncestorsAreRead : Type 0
 AncestorsAreRead = (C : List Member) → Valid C → (hs : List Hash) → ReadsOfAncestors C hs
 
--- the ancestors of members of a valid set, and so what is read at them, stay the same when other members come
+-- what is visible at members of a valid set is the same in every valid set that has all its members
+abbrev pub ViewsStay : Type 0
+ViewsStay = (C D : List Member) (hs : List Hash) → Valid C → Valid D → All (Contains D) C → All (λ h. IsTrue (holds C h)) hs → SeesAlike C D hs
+
+-- the ancestors of members of a valid set are listed alike when other members are listed behind them
 abbrev pub AncestorsStay : Type 0
 AncestorsStay = (C E : List Member) (hs : List Hash) → Valid C → All (λ h. IsTrue (holds C h)) hs → All (λ m. holds C m.hash ≡ false) E
     → ancestors (C ++ E) hs ≡ ancestors C hs

@@ -9,7 +9,7 @@ use Rattle.std.specs.Prelude.{◌≡◌, ◌↔◌, false, List, [], ◌∷◌, 
 use Rattle.am_types.specs.Bytes.{IsHash}
 use Rattle.am_types.specs.Records.{Change, Fits}
 use Rattle.am_types.specs.Fine.{Fine}
-use Rattle.am_types.specs.Members.{Member, changes, holds, holds_deps}
+use Rattle.am_types.specs.Members.{Member, changes, holds, holds_deps, NoRepeats}
 use Rattle.am_types.specs.Verdicts.{verdict}
 
 pub record Joins (before : List Member) (m : Member) : Type 0 where
@@ -40,5 +40,6 @@ pub record Reachable (D : List Member) (m : Member) : Type 0 where
   pub within : All (Contains D) set
   pub has : Contains set m
 
-abbrev pub IsGreatest : List Member → List Member → Type 0
-IsGreatest D C = (m : Member) → Contains C m ↔ Reachable D m
+pub record IsGreatest (D C : List Member) : Type 0 where
+  pub once : NoRepeats C
+  pub members : (m : Member) → Contains C m ↔ Reachable D m
