@@ -1,5 +1,5 @@
 -- The change that settling takes next is ready, and no ready one has a lesser hash.
-use Rattle.std.proofs.Common.{◌≡◌, ◌≢◌, List, [], ◌∷◌, Bool, true, false, filter, refl, sym, ap, ◌∙◌, subst, inl, inr, Contains, arith}
+use Rattle.std.proofs.Common.{◌≡◌, ◌≢◌, List, [], ◌∷◌, true, false, filter, refl, ap, subst, inl, inr, Contains, arith}
 use Rattle.std.specs.Ordering.{is_eq, is_gt}
 use Rattle.std.specs.declared.cmp.Ordering.{Ordering}
 use Rattle.std.specs.declared.cmp.Ordering.TheVariants.{Less, Equal, Greater}

@@ -1,5 +1,5 @@
 -- The canonical order, the heads and the table of a set don't depend on how it is listed.
-use Rattle.std.proofs.Common.{◌≡◌, List, ◌∷◌, filter, map, not, sym, ap, ◌∙◌, Contains, IsPermutation}
+use Rattle.std.proofs.Common.{◌≡◌, List, ◌∷◌, filter, not, sym, ap, ◌∙◌, Contains, IsPermutation}
 use Rattle.std.specs.Cmp.{IsTotalOrder}
 use Rattle.std.specs.List.{dedup, flat_map}
 use Rattle.std.specs.Ordering.{nat_cmp, on, then_cmp, ordering_then}
@@ -16,11 +16,9 @@ use Rattle.am_types.specs.Operations.{operations, all_operations, OneOperationPe
 use Rattle.am_types.specs.Members.{Member, changes, hashes, is_dependency, heads}
 use Rattle.am_types.specs.ValidSets.{Valid}
 use Rattle.am_types.specs.Canonical.{depth, canonical_cmp, order}
-use Rattle.am_types.specs.Documents.{op_actors, actors, used_actors, index, metas, unless_empty, table}
-use Rattle.am_types.specs.Laws.{ReadsAlike}
+use Rattle.am_types.specs.Documents.{op_actors, actors, used_actors}
 use Rattle.am_types.proofs.Orders.{hash_total, hash_exact}
 use Rattle.am_types.proofs.Sorting.{sorted_by-permutation}
-use Rattle.am_types.proofs.Permuted.{elements-permutation, replay-permutation, rows-permutation}
 use Rattle.am_types.proofs.Permutations.{IsPermutation-filter, IsPermutation-flat_map}
 use Rattle.am_types.proofs.DistinctIds.{distinct_ids_of}
 use Rattle.am_types.proofs.Listed.{Facts}
