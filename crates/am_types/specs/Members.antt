@@ -8,7 +8,7 @@
 --     NoRepeats C             no member of C is listed twice
 --     DistinctHashes C        no two members of C have one hash
 --     DepsFirst [] C          each dependency of a member is the hash of one before it
---     heads C                 the hashes, ascending, that no member has as a dependency
+--     heads C                 the hashes of the members on which no member depends, ascending
 use Rattle.std.specs.Prelude.{Bool, not, ◌≢◌, List, [], ◌∷◌, ◌++◌, map, filter, find, Option, All, AllPairs, IsTrue, ⊤}
 use Rattle.std.specs.List.{list_any, list_all}
 use Rattle.am_types.specs.Records.{Hash, Change}

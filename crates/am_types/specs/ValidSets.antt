@@ -3,7 +3,7 @@
 --     JoinInTurn [] C        each member of C joins those before it
 --     Valid C                the members of C can be listed so that each joins those before it
 --     IsValidSet cs          there are hashes with which the changes cs are a valid set
---     IsGreatest D C         C is the union of all valid sets within D
+--     IsGreatest D C         C, without repeats, has just the members that stand in some valid set within D
 -- `Valid` and `Reachable` hold a listing, so a ghost field with one of them wants ∥ ∥₁ round it.
 use Rattle.std.specs.Prelude.{◌≡◌, ◌↔◌, false, List, [], ◌∷◌, ◌++◌, All, Contains, IsTrue, IsPermutation, ⊤}
 use Rattle.am_types.specs.Bytes.{IsHash}
