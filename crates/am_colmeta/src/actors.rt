@@ -61,7 +61,7 @@ impl<'a> ActorList<'a> {
 
     /// How many actors are listed.
     pub fn count(&self) -> u64
-        ensures { result ≡ length self.now }
+        ensures number { result ≡ length self.now }
     {
         self.count
     }

@@ -28,9 +28,9 @@ impl<'a> Model for Columns<'a> {
 }
 
 impl<'a> Columns<'a> {
-    /// The columns that the metadata cut out of the body. The first of these conditions that holds refuses them: a
-    /// column is compressed, the specifications don't strictly ascend, one isn't known (the first such is told), the
-    /// lengths together aren't the length of the body.
+    /// The columns that the metadata cut out of the body. They are refused for the first of these causes that is there:
+    /// a column is compressed, a specification isn't above the one before it, one isn't known (the first such is told),
+    /// the lengths together aren't the length of the body.
     pub fn over(
         list: ColumnList<'a>,
         body: &'a [u8],

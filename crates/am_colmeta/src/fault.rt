@@ -10,10 +10,10 @@ pub struct BadColumns;
 /// of this list is told.
 #[derive(Clone, Copy, Debug, PartialEq, Eq, Error)]
 pub enum ColumnFault {
-    /// A specification has the deflate bit.
+    /// A column is compressed by DEFLATE: bit 3 of its specification is set.
     #[error("a column is compressed")]
     CompressedColumn,
-    /// The specifications don't strictly ascend.
+    /// A specification isn't above the one before it.
     #[error("the columns aren't in ascending order")]
     NotAscending,
     /// A specification isn't among the known ones: this is the first.

@@ -74,7 +74,7 @@ impl<'a> ColumnList<'a> {
 
     /// Whether some column is compressed by DEFLATE.
     pub fn compressed(&self) -> bool
-        ensures { IsTrue result ↔ AreCompressed self.now }
+        ensures some { IsTrue result ↔ AreCompressed self.now }
     {
         let mut rest = self.again();
         while let Some((specification, _)) = rest.next() {
@@ -87,9 +87,10 @@ impl<'a> ColumnList<'a> {
 
     /// The lengths of all columns together, in bytes.
     pub fn total(&self) -> u128
-        ensures { result ≡ total self.now }
+        ensures sum { result ≡ total self.now }
     {
-        let count = self.count();
+        // For the proof: fewer than 2^64 lengths are added.
+        let _count = self.count();
         let mut rest = self.again();
         let mut sum = 0u128;
         while let Some((_, width)) = rest.next() {

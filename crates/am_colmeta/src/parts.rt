@@ -24,28 +24,20 @@ pub fn pair_at<'a>(bytes: &'a [u8]) -> Option<((u64, u64), &'a [u8])>
     ensures read { option_map {U = (ℕ × ℕ) × List ℕ} (λ found. (found.0, found.1.now)) result ≡ first_pair bytes.now }
     ensures fits { IfSome result (λ found. (found.0.0 < 2 ^ 64) × (found.0.1 < 2 ^ 64)) }
 {
-    match number_at(bytes) {
-        None => None,
-        Some((specification, rest)) => match number_at(rest) {
-            None => None,
-            Some((length, rest)) => Some(((specification, length), rest)),
-        },
-    }
+    let (specification, rest) = number_at(bytes)?;
+    let (length, rest) = number_at(rest)?;
+    Some(((specification, length), rest))
 }
 
 // Bytes that stand behind their length, and the bytes behind them.
 pub fn prefixed_at<'a>(bytes: &'a [u8]) -> Option<(&'a [u8], &'a [u8])>
     ensures { option_map {U = List ℕ × List ℕ} (λ found. (found.0.now, found.1.now)) result ≡ first_prefixed bytes.now }
 {
-    match number_at(bytes) {
-        None => None,
-        Some((length, rest)) => {
-            if length <= rest.len() as u64 {
-                Some(rest.split_at(length as usize))
-            } else {
-                None
-            }
-        }
+    let (length, rest) = number_at(bytes)?;
+    if length <= rest.len() as u64 {
+        Some(rest.split_at(length as usize))
+    } else {
+        None
     }
 }
 
@@ -56,10 +48,8 @@ pub fn behind_pairs<'a>(bytes: &'a [u8], count: u64) -> Option<&'a [u8]>
     let mut rest = bytes;
     let mut left = count;
     while left > 0 {
-        match pair_at(rest) {
-            None => return None,
-            Some((_, more)) => rest = more,
-        }
+        let (_, more) = pair_at(rest)?;
+        rest = more;
         left -= 1;
     }
     Some(rest)
@@ -72,10 +62,8 @@ pub fn behind_prefixed<'a>(bytes: &'a [u8], count: u64) -> Option<&'a [u8]>
     let mut rest = bytes;
     let mut left = count;
     while left > 0 {
-        match prefixed_at(rest) {
-            None => return None,
-            Some((_, more)) => rest = more,
-        }
+        let (_, more) = prefixed_at(rest)?;
+        rest = more;
         left -= 1;
     }
     Some(rest)

@@ -33,8 +33,8 @@ impl<'a> Model for ValueCursor<'a> {
 
 impl<'a> ValueCursor<'a> {
     /// The values that the two columns spell: numbers that tell kinds and lengths, and raw bytes (Automerge Binary
-    /// Document Format, "Value Metadata" and "Value"). BadValue where they spell no list of at most so many good values
-    /// and nulls.
+    /// Document Format, "Value Metadata" and "Value"). BadValue where that isn't a list of good values and nulls, or a
+    /// longer one than `most`.
     pub fn over(meta: &'a [u8], raw: &'a [u8], most: u64) -> Result<Self, BadValue>
         ensures ok { IfOk result (λ values. JoinsValues meta.now raw.now values × (length values ≤ most)) }
         ensures err { OnErr result ((values : List (Option RawValue)) → JoinsValues meta.now raw.now values → most < length values) }

@@ -64,10 +64,10 @@ pub fn number_of(value: ValueRef<'_>) -> Option<i128>
     }
 }
 
-/// What an increment by the value adds to a counter: the number of a number or a counter (kinds 3, 4 and 8), and 0
-/// for any other value.
+/// What an increment by the value adds to a counter. A number or a counter counts for its number; any other value, a
+/// timestamp too, counts for 0.
 pub fn amount_of(value: ValueRef<'_>) -> i128
-    ensures { result ≡ amount (value_of value.entry) }
+    ensures amount { result ≡ amount (value_of value.entry) }
 {
     match value.kind {
         3 | 4 | 8 => number_of(value).unwrap_or(0),

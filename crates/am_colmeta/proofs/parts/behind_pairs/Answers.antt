@@ -4,4 +4,4 @@ use Rattle.am_colmeta.proofs.Counted.{behind-one}
 use Rattle.am_colmeta.proofs.parts.behind_pairs.Goals as goal
 
 pub loop-left-preserved : goal.loop-left-preserved
-loop-left-preserved c = sym (behind-one first_pair c.loop-left.left c.loop-left.rest.now _ c.in-Some.more.now (omega arith) (sym c.in-Some.ensures.read)) ∙ c.loop-left.invariant
+loop-left-preserved c = sym (behind-one first_pair c.loop-left.left c.loop-left.rest.now _ c.in_ok-more.more.now (omega arith) (sym c.in_ok-more.ensures.read)) ∙ c.loop-left.invariant
