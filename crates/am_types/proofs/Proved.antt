@@ -87,7 +87,7 @@ pub settles_in_turn : law.SettlesInTurn
 settles_in_turn = record { takes_least = takes_least; goes_on = settle_taken; stays = settle_idle; ends = settle_settles }
 
 pub settling_keeps_order : law.SettlingKeepsOrder
-settling_keeps_order s distinct turn waits = (settle_sound s (record { listed = turn; waiting = waits })).listed
+settling_keeps_order s turn waits = (settle_sound s (record { listed = turn; waiting = waits })).listed
 
 pub listing_is_free : law.ListingIsFree
 listing_is_free = listing.reads_alike

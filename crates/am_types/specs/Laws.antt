@@ -104,7 +104,7 @@ pub record SettlesInTurn : Type 0 where
 
 -- settling keeps that each closed change joins those before it
 abbrev pub SettlingKeepsOrder : Type 0
-SettlingKeepsOrder = (s : Sets) → DistinctHashes (s.closed ++ s.waiting) → JoinInTurn [] s.closed → All (Waits s.closed) s.waiting
+SettlingKeepsOrder = (s : Sets) → JoinInTurn [] s.closed → All (Waits s.closed) s.waiting
     → JoinInTurn [] (settle s).closed
 
 -- ---- what is read off a set

@@ -58,7 +58,7 @@ pub fn settles_in_turn()
     ensures { SettlesInTurn }
 {}
 
-/// What settling leaves in the closed set joins one after the other, where it did before and no hash comes twice.
+/// What settling leaves in the closed set joins one after the other, where it did before.
 #[tactic(auto, using(crate::proofs::Proved::settling_keeps_order))]
 pub fn settling_keeps_order()
     ensures { SettlingKeepsOrder }
