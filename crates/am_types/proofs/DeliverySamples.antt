@@ -7,7 +7,7 @@ use Rattle.am_types.specs.Ancestors.{ancestors}
 use Rattle.am_types.specs.Verdicts.{verdict}
 use Rattle.am_types.specs.Deliver.{deliver, settle, after}
 use Rattle.am_types.proofs.SampleHashes.{h_a1, h_a1x}
-use Rattle.am_types.proofs.Samples.{a1, a1x, a2, aa, id, op, value, change}
+use Rattle.am_types.proofs.Samples.{a1, a1x, a2, k1, k2, k3, k4, k5, k6, aa, id, op, value, change}
 
 -- ---- one actor, one seq, two changes: the first one stays
 
@@ -71,3 +71,14 @@ low = refl
 other_key : verdict (a1 ∷ []) (change (h_a1 ∷ []) aa 2 2 (op Root (Name (0x62 ∷ [])) actions.set (value 3 (2 ∷ [])) (id 1 aa ∷ []) ∷ [])) ≡ BadReference 0
 unfolding verdict ancestors
 other_key = refl
+
+-- ---- counters
+
+-- a counter, two increments and its deletion, last one first: those of one depth join by hash
+counter_fits : deliver [] [] (k4 ∷ k3 ∷ k2 ∷ k1 ∷ []) ≡ record { closed = k1 ∷ k3 ∷ k2 ∷ k4 ∷ []; waiting = []; rejected = [] }
+unfolding deliver settle verdict ancestors
+counter_fits = refl
+
+great_counter_fits : deliver [] [] (k6 ∷ k5 ∷ []) ≡ record { closed = k5 ∷ k6 ∷ []; waiting = []; rejected = [] }
+unfolding deliver settle verdict ancestors
+great_counter_fits = refl

@@ -4,7 +4,7 @@ use Rattle.std.proofs.lemmas.Bool.{cases_order}
 use Rattle.std.proofs.lemmas.List.{get_or_default}
 use Rattle.std.proofs.lemmas.List.Elements.{All-contains, Contains-append_cases}
 use Rattle.am_types.specs.Records.{Hash, Op}
-use Rattle.am_types.specs.Operations.{Operation, numbered, operations, all_operations, max}
+use Rattle.am_types.specs.Operations.{Operation, numbered, operations, all_operations, max, OneOperationPerId}
 use Rattle.am_types.specs.Members.{Member, changes}
 use Rattle.am_types.specs.Ancestors.{is_named, ancestor_hashes, ancestors}
 use Rattle.am_types.specs.ValidSets.{JoinInTurn}
@@ -80,14 +80,9 @@ same_place s a ops x y i j p q e =
     let ops_same : get_or ops i x.op ≡ get_or ops j y.op = ap (λ k. get_or ops k x.op) ij ∙ get_or_default ops j x.op y.op q.0 in
     p.1 ∙ (λ t. record { id = record { counter = s + ij t; actor = a }; op = ops_same t }) ∙ sym q.1
 
-pub distinct_ids_of : (C : List Member) → Facts C → (x y : Operation) → Contains (all_operations (changes C)) x → Contains (all_operations (changes C)) y → x.id ≡ y.id → x ≡ y
-distinct_ids_of C facts x y cx cy e =
-    let fx = operation_of C x cx in
-    let fy = operation_of C y cy in
-    let m = fx.0 in
-    let n = fy.0 in
-    let ox = fx.2 in
-    let oy = fy.2 in
+-- the changes of two operations with one id are one
+pub one_change : (C : List Member) → Facts C → (m n : Member) → Contains C m → Contains C n → (x y : Operation) → Contains (operations m.change) x → Contains (operations n.change) y → x.id ≡ y.id → m ≡ n
+one_change C facts m n cm cn x y ox oy e =
     let px = numbered_at m.change.start m.change.actor m.change.ops x ox.0 ox.1 ox.2 in
     let py = numbered_at n.change.start n.change.actor n.change.ops y oy.0 oy.1 oy.2 in
     let actors : m.change.actor ≡ n.change.actor = sym (ap (λ z. z.id.actor) px.1.1) ∙ ap (λ i. i.actor) e ∙ ap (λ z. z.id.actor) py.1.1 in
@@ -97,15 +92,28 @@ distinct_ids_of C facts x y cx cy e =
     let lx : px.0 < length m.change.ops = px.1.0 in
     let ly : py.0 < length n.change.ops = py.1.0 in
     elim (cases_order m.change.seq n.change.seq) [
-      | inl s ↦ let one : n ≡ m = sym (facts.one_seq m n fx.1 fy.1 actors s) in
-          let oy' = subst (λ q. Contains (operations q.change) y) one oy in
-          let py' = numbered_at m.change.start m.change.actor m.change.ops y oy'.0 oy'.1 oy'.2 in
-          same_place m.change.start m.change.actor m.change.ops x y px.0 py'.0 px.1 py'.1 counters
+      | inl s ↦ facts.one_seq m n cm cn actors s
       | inr r ↦ elim r [
-        | inl l ↦ let up = later_starts_above C facts n m fy.1 fx.1 (sym actors) l in absurd (omega arith)
-        | inr l ↦ let up = later_starts_above C facts m n fx.1 fy.1 actors l in absurd (omega arith)
+        | inl l ↦ let up = later_starts_above C facts n m cn cm (sym actors) l in absurd (omega arith)
+        | inr l ↦ let up = later_starts_above C facts m n cm cn actors l in absurd (omega arith)
       ]
     ]
+
+-- operations of some members of a set
+pub distinct_ids_in : (S C : List Member) → Facts S → ((m : Member) → Contains C m → Contains S m) → OneOperationPerId (all_operations (changes C))
+distinct_ids_in S C facts inside x y cx cy e =
+    let fx = operation_of C x cx in
+    let fy = operation_of C y cy in
+    let m = fx.0 in
+    let ox = fx.2 in
+    let one : m ≡ fy.0 = one_change S facts m fy.0 (inside m fx.1) (inside fy.0 fy.1) x y ox fy.2 e in
+    let oy = subst (λ (q : Member). Contains (operations q.change) y) (sym one) fy.2 in
+    let px = numbered_at m.change.start m.change.actor m.change.ops x ox.0 ox.1 ox.2 in
+    let py = numbered_at m.change.start m.change.actor m.change.ops y oy.0 oy.1 oy.2 in
+    same_place m.change.start m.change.actor m.change.ops x y px.0 py.0 px.1 py.1 (ap (λ i. i.counter) e)
+
+pub distinct_ids_of : (C : List Member) → Facts C → OneOperationPerId (all_operations (changes C))
+distinct_ids_of C facts = distinct_ids_in C C facts (λ m c. c)
 
 pub distinct_ids : (C : List Member) → JoinInTurn [] C → (x y : Operation) → Contains (all_operations (changes C)) x → Contains (all_operations (changes C)) y → x.id ≡ y.id → x ≡ y
 distinct_ids C turn = distinct_ids_of C (listed C turn)

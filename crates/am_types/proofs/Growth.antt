@@ -12,7 +12,7 @@ use Rattle.am_types.specs.Ancestors.{is_named, ancestor_hashes, ancestors}
 use Rattle.am_types.proofs.Orders.{same_hash-true, hash_total}
 use Rattle.am_types.proofs.Ancestry.{ancestors_closed, ancestors_named, ancestors_least, Contains-from_filter}
 
-filter_agree_on : {X : Type 0} (p q : X → Bool) (xs : List X) → All (λ x. p x ≡ q x) xs → filter p xs ≡ filter q xs
+pub filter_agree_on : {X : Type 0} (p q : X → Bool) (xs : List X) → All (λ x. p x ≡ q x) xs → filter p xs ≡ filter q xs
 filter_agree_on p q [] all = refl
 filter_agree_on p q (x ∷ xs) all =
     let here : p x ≡ q x = All-head (λ x. p x ≡ q x) x xs all in

@@ -23,6 +23,12 @@ pub mod ValidSetLaws
 pub mod NumberLaws
 pub mod Depths
 pub mod ListingLaws
+pub mod SameMembers
+pub mod Rules
+pub mod DistinctOperations
+pub mod SharedAncestors
+pub mod LeastReady
+pub mod ReadsAlike
 pub mod Proved
 pub mod SampleHashes
 pub mod Samples

@@ -1,5 +1,5 @@
 -- The canonical order, the heads and the table of a set don't depend on how it is listed.
-use Rattle.std.proofs.Common.{◌≡◌, List, ◌∷◌, filter, map, not, sym, ap, ◌∙◌, Contains, IsPermutation}
+use Rattle.std.proofs.Common.{◌≡◌, List, ◌∷◌, filter, not, sym, ap, ◌∙◌, Contains, IsPermutation}
 use Rattle.std.specs.Cmp.{IsTotalOrder}
 use Rattle.std.specs.List.{dedup, flat_map}
 use Rattle.std.specs.Ordering.{nat_cmp, on, then_cmp, ordering_then}
@@ -12,15 +12,13 @@ use Rattle.std.proofs.lemmas.Map.Lookups.{exact_bytes}
 use Rattle.am_types.specs.Records.{Hash}
 use Rattle.am_types.specs.Order.{bytes_cmp, hash_cmp, among, sorted_by}
 use Rattle.am_types.specs.Same.{same_bytes}
-use Rattle.am_types.specs.Operations.{operations, all_operations, DistinctIds}
+use Rattle.am_types.specs.Operations.{operations, all_operations, OneOperationPerId}
 use Rattle.am_types.specs.Members.{Member, changes, hashes, is_dependency, heads}
 use Rattle.am_types.specs.ValidSets.{Valid}
 use Rattle.am_types.specs.Canonical.{depth, canonical_cmp, order}
-use Rattle.am_types.specs.Documents.{op_actors, actors, used_actors, index, metas, unless_empty, table}
-use Rattle.am_types.specs.Laws.{ReadsAlike}
+use Rattle.am_types.specs.Documents.{op_actors, actors, used_actors}
 use Rattle.am_types.proofs.Orders.{hash_total, hash_exact}
 use Rattle.am_types.proofs.Sorting.{sorted_by-permutation}
-use Rattle.am_types.proofs.Permuted.{elements-permutation, replay-permutation, rows-permutation}
 use Rattle.am_types.proofs.Permutations.{IsPermutation-filter, IsPermutation-flat_map}
 use Rattle.am_types.proofs.DistinctIds.{distinct_ids_of}
 use Rattle.am_types.proofs.Listed.{Facts}
@@ -29,7 +27,7 @@ use Rattle.am_types.proofs.Depths.{depth-permutation}
 
 -- ---- heads
 
-heads-permutation : (C D : List Member) → IsPermutation C D → heads D ≡ heads C
+pub heads-permutation : (C D : List Member) → IsPermutation C D → heads D ≡ heads C
 heads-permutation C D p =
     let headed = λ (E : List Member) (g : Hash). not (is_dependency E g) in
     ap (sorted_by hash_cmp) (filter_agree (headed D) (headed C) (λ g. ap not (sym (list_any-IsPermutation (λ (m : Member). among hash_cmp m.change.deps g) C D p))) (hashes D))
@@ -65,7 +63,7 @@ same_cmp C D p =
     λ i. then_cmp (on (λ m. depth-permutation C D p m.change i) nat_cmp)
     (then_cmp (on (λ m. m.change.actor) bytes_cmp) (then_cmp (on (λ m. m.change.seq) nat_cmp) (on (λ m. m.hash) hash_cmp)))
 
-order-permutation : (C D : List Member) → Facts C → IsPermutation C D → order D ≡ order C
+pub order-permutation : (C D : List Member) → Facts C → IsPermutation C D → order D ≡ order C
 unfolding order
 order-permutation C D facts p =
     ap (λ cmp. sorted_by cmp D) (same_cmp C D p)
@@ -73,7 +71,7 @@ order-permutation C D facts p =
 
 -- ---- the table
 
-used_actors-permutation : (C D : List Member) → IsPermutation C D → used_actors D ≡ used_actors C
+pub used_actors-permutation : (C D : List Member) → IsPermutation C D → used_actors D ≡ used_actors C
 used_actors-permutation C D p =
     ap (dedup same_bytes) (sorted_by-permutation nat_list_cmp_total (λ _. Unit {0}) (λ x y _ _ e. exact_bytes x y e) (actors C) (actors D) (λ k d l. tt)
     (IsPermutation-flat_map (λ (m : Member). m.change.actor ∷ flat_map op_actors m.change.ops) C D p))
@@ -82,30 +80,5 @@ used_actors-permutation C D p =
 pub operations-permutation : (C D : List Member) → IsPermutation C D → IsPermutation (all_operations (changes C)) (all_operations (changes D))
 operations-permutation C D p = IsPermutation-flat_map operations (changes C) (changes D) (IsPermutation-map (λ (m : Member). m.change) C D p)
 
-pub distinct_ids_valid : (C : List Member) → Valid C → DistinctIds (all_operations (changes C))
-distinct_ids_valid C v = distinct_ids_of C (grounds_valid C v).facts
-
--- ---- all that is read off a set
-
-pub reads_alike : (C D : List Member) → Valid C → IsPermutation C D → ReadsAlike C D
-unfolding table
-reads_alike C D v p =
-    let distinct = distinct_ids_valid C v in
-    let same = operations-permutation C D p in
-    let rows_same = rows-permutation (all_operations (changes C)) (all_operations (changes D)) distinct same in
-    let order_same = order-permutation C D (grounds_valid C v).facts p in
-    let heads_same = heads-permutation C D p in
-    record {
-      elements = λ o. elements-permutation (all_operations (changes C)) (all_operations (changes D)) o distinct same;
-      replay = replay-permutation (all_operations (changes C)) (all_operations (changes D)) distinct same;
-      rows = rows_same;
-      heads = heads_same;
-      order = order_same;
-      table = λ i. record {
-        actors = used_actors-permutation C D p i;
-        heads = heads_same i;
-        metas = metas (order_same i);
-        rows = rows_same i;
-        suffix = unless_empty (map (index (order_same i)) (heads_same i));
-      };
-    }
+pub one_per_id : (C : List Member) → Valid C → OneOperationPerId (all_operations (changes C))
+one_per_id C v = distinct_ids_of C (grounds_valid C v).facts

@@ -37,7 +37,7 @@ JoinInTurn-push before [] m turn j = (subst (λ l. Joins l m) (append-nil before
 JoinInTurn-push before (x ∷ xs) m turn j = (turn.0, JoinInTurn-push (before ++ x ∷ []) xs m turn.1 (subst (λ l. Joins l m) (sym (append_assoc before (x ∷ []) xs)) j))
 
 -- the first that is ready waits, and its dependencies are held
-ready_is : (C W : List Member) → All (λ m. Contains W m × (holds_deps C m.change ≡ true)) (ready C W)
+pub ready_is : (C W : List Member) → All (λ m. Contains W m × (holds_deps C m.change ≡ true)) (ready C W)
 ready_is C W =
     let p = λ (m : Member). holds_deps C m.change in
     All-permutation (λ m. Contains W m × (holds_deps C m.change ≡ true)) (filter p W) (ready C W) (IsPermutation-sorted_by by_hash _)

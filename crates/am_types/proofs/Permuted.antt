@@ -6,7 +6,7 @@ use Rattle.std.specs.List.{Contains}
 use Rattle.std.proofs.lemmas.Cmp.{on_total}
 use Rattle.std.proofs.lemmas.List.Elements.{All-contains_itself}
 use Rattle.am_types.specs.Records.{ObjId}
-use Rattle.am_types.specs.Operations.{Operation, DistinctIds, operation_cmp, ascending}
+use Rattle.am_types.specs.Operations.{Operation, OneOperationPerId, operation_cmp, ascending}
 use Rattle.am_types.specs.Places.{place_cmp}
 use Rattle.am_types.specs.Replay.{replay, apply}
 use Rattle.am_types.specs.Elements.{elements}
@@ -21,21 +21,21 @@ use Rattle.am_types.proofs.Sorting.{sorted_by-permutation}
 pub operation_total : IsTotalOrder operation_cmp
 operation_total = on_total (λ x. x.id) id_total
 
-pub ascending-permutation : (A B : List Operation) → DistinctIds A → IsPermutation A B → ascending B ≡ ascending A
+pub ascending-permutation : (A B : List Operation) → OneOperationPerId A → IsPermutation A B → ascending B ≡ ascending A
 ascending-permutation A B distinct h =
     sorted_by-permutation operation_total (Contains A) (λ x y cx cy e. distinct x y cx cy (id_exact x.id y.id e)) A B (All-contains_itself A) h
 
-pub elements-permutation : (A B : List Operation) (o : ObjId) → DistinctIds A → IsPermutation A B → elements B o ≡ elements A o
+pub elements-permutation : (A B : List Operation) (o : ObjId) → OneOperationPerId A → IsPermutation A B → elements B o ≡ elements A o
 unfolding elements
 elements-permutation A B o distinct h = rw (ascending-permutation A B distinct h)
 
-pub replay-permutation : (A B : List Operation) → DistinctIds A → IsPermutation A B → replay B ≡ replay A
+pub replay-permutation : (A B : List Operation) → OneOperationPerId A → IsPermutation A B → replay B ≡ replay A
 unfolding replay
 replay-permutation A B distinct h =
     let listed = ascending-permutation A B distinct h in
     λ i. sorted_by (on entry_place (place_cmp (λ o. elements-permutation A B o distinct h i))) (fold apply [] (listed i))
 
-pub rows-permutation : (A B : List Operation) → DistinctIds A → IsPermutation A B → rows B ≡ rows A
+pub rows-permutation : (A B : List Operation) → OneOperationPerId A → IsPermutation A B → rows B ≡ rows A
 unfolding rows
 rows-permutation A B distinct h =
     let listed = ascending-permutation A B distinct h in

@@ -19,12 +19,16 @@ use Rattle.am_types.proofs.Growth.{among_at, found_among, ancestors_stay}
 use Rattle.am_types.proofs.VerdictLaws.{fits_by, fits_from}
 use Rattle.am_types.proofs.SettleLaws.{settle_settles, settle_idle, settle_taken}
 use Rattle.am_types.proofs.Listings.{settle_sound}
-use Rattle.am_types.proofs.ListingLaws as listing
+use Rattle.am_types.proofs.ReadsAlike as listing
+use Rattle.am_types.proofs.SharedAncestors as shared
+use Rattle.am_types.proofs.LeastReady.{takes_least}
 use Rattle.am_types.proofs.Depths as depths
 use Rattle.am_types.proofs.Parts.{elements_part}
 use Rattle.am_types.proofs.Covered.{operations_part, anchored}
 use Rattle.am_types.proofs.ValidSetLaws.{grounds_valid}
 use Rattle.am_types.proofs.DistinctIds.{ancestor_is_member}
+use Rattle.am_types.proofs.DistinctOperations.{distinct_ids_valid}
+use Rattle.am_types.proofs.Rules.{keeps_rules}
 use Rattle.am_types.specs.Elements.{elements}
 
 pub orders_are_strict : law.OrdersAreStrict
@@ -74,13 +78,16 @@ pub fits_exactly : law.FitsExactly
 fits_exactly C c = (fits_by C c, fits_from C c)
 
 pub ids_are_distinct : law.IdsAreDistinct
-ids_are_distinct = listing.distinct_ids_valid
+ids_are_distinct = distinct_ids_valid
+
+pub valid_sets_keep_rules : law.ValidSetsKeepRules
+valid_sets_keep_rules = keeps_rules
 
 pub settles_in_turn : law.SettlesInTurn
-settles_in_turn = record { goes_on = settle_taken; stays = settle_idle; ends = settle_settles }
+settles_in_turn = record { takes_least = takes_least; goes_on = settle_taken; stays = settle_idle; ends = settle_settles }
 
 pub settling_keeps_order : law.SettlingKeepsOrder
-settling_keeps_order s turn waits = (settle_sound s (record { listed = turn; waiting = waits })).listed
+settling_keeps_order s distinct turn waits = (settle_sound s (record { listed = turn; waiting = waits })).listed
 
 pub listing_is_free : law.ListingIsFree
 listing_is_free = listing.reads_alike
@@ -99,6 +106,12 @@ ancestors_are_read C v hs =
       respects = anchored C g hs;
       elements = λ o. ap (λ A. elements A o) (operations_part C g hs) ∙ elements_part (covers (ancestors C hs)) _ (anchored C g hs) o;
     }
+
+pub ancestors_keep_order : law.AncestorsKeepOrder
+ancestors_keep_order = shared.ancestors_keep_order
+
+pub views_stay : law.ViewsStay
+views_stay C D hs vc vd within held = shared.views_stay C D hs vc vd within held
 
 pub ancestors_stay_valid : law.AncestorsStay
 ancestors_stay_valid C E hs v held apart = ancestors_stay C E hs (grounds_valid C v).facts.closed held apart

@@ -1,12 +1,13 @@
 -- Two people insert after one letter: in every order of delivery the text reads a, y, x, b, and at each state before
 -- what was there then.
-use Rattle.std.proofs.Common.{◌≡◌, List, [], ◌∷◌, refl}
+use Rattle.std.proofs.Common.{◌≡◌, List, [], ◌∷◌, map, refl}
 use Rattle.am_types.specs.Records.{OpId, Hash}
 use Rattle.am_types.specs.Operations.{all_operations}
 use Rattle.am_types.specs.Members.{Member, changes, hashes}
 use Rattle.am_types.specs.Ancestors.{ancestors}
 use Rattle.am_types.specs.Deliver.{Sets, deliver, settle, after}
 use Rattle.am_types.specs.Elements.{elements}
+use Rattle.am_types.specs.Replay.{replay}
 use Rattle.am_types.proofs.SampleHashes.{h_t1, h_t2, h_t3}
 use Rattle.am_types.proofs.Samples.{the_text, t1, t2, t3, id, aa, bb, cc}
 
@@ -97,3 +98,32 @@ at_third = refl
 at_first_and_second : letters_at (h_t1 ∷ h_t2 ∷ []) ≡ id 2 aa ∷ id 4 bb ∷ id 3 aa ∷ []
 unfolding elements ancestors
 at_first_and_second = refl
+
+-- ---- what is visible
+
+-- the visible entries, by their ids
+abbrev seen : List Member → List OpId
+seen C = map (λ e. e.id) (replay (all_operations (changes C)))
+
+abbrev seen_at : List Hash → List OpId
+seen_at hs = seen (ancestors (t3 ∷ t2 ∷ t1 ∷ []) hs)
+
+seen_in_whole : seen (t3 ∷ t2 ∷ t1 ∷ []) ≡ id 1 aa ∷ id 2 aa ∷ id 4 cc ∷ id 4 bb ∷ id 3 aa ∷ []
+unfolding replay elements
+seen_in_whole = refl
+
+seen_at_first : seen_at (h_t1 ∷ []) ≡ id 1 aa ∷ id 2 aa ∷ id 3 aa ∷ []
+unfolding replay elements ancestors
+seen_at_first = refl
+
+seen_at_second : seen_at (h_t2 ∷ []) ≡ id 1 aa ∷ id 2 aa ∷ id 4 bb ∷ id 3 aa ∷ []
+unfolding replay elements ancestors
+seen_at_second = refl
+
+seen_at_third : seen_at (h_t3 ∷ []) ≡ id 1 aa ∷ id 2 aa ∷ id 4 cc ∷ id 3 aa ∷ []
+unfolding replay elements ancestors
+seen_at_third = refl
+
+seen_at_both : seen_at (h_t2 ∷ h_t3 ∷ []) ≡ id 1 aa ∷ id 2 aa ∷ id 4 cc ∷ id 4 bb ∷ id 3 aa ∷ []
+unfolding replay elements ancestors
+seen_at_both = refl

@@ -2,8 +2,8 @@
 --     ancestors C hs         the members of C with a hash among hs, their dependencies, the dependencies of these, and so on
 --     IsLeastPart C hs A     A is the least part of C that has the members with a hash among hs, and with each of its own
 --                            members those that this one depends on
--- (Automerge Binary Document Format, "change graph".) The ancestors are this least part, as a law says; nothing
--- above this file rests on more.
+-- (Automerge Binary Document Format, "change graph".) The ancestors are this least part, as a law says, and stand in the
+-- order in which C lists them.
 use Rattle.std.specs.Prelude.{Bool, List, ◌++◌, length, filter, flat_map, All, Contains, IsTrue}
 use Rattle.std.specs.Fn.{iterate}
 use Rattle.am_types.specs.Records.{Hash}

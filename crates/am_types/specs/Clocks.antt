@@ -1,6 +1,8 @@
 -- Which ids some changes cover. (Automerge Binary Document Format, "operation IDs": the counters of an actor rise from
 -- change to change, so that a clock with the last counter of each actor tells whose operations are there.)
 --     covers A id      a change among A by the id's actor ends at the id's counter or above
+-- An id that no operation has may be covered: counters may have gaps. Among the operations of a valid set, the covered
+-- ones are those of the ancestors, as a law says.
 use Rattle.std.specs.Prelude.{Bool, ◌&&◌, nat_le, List}
 use Rattle.std.specs.List.{list_any}
 use Rattle.am_types.specs.Records.{OpId}

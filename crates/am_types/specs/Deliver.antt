@@ -18,7 +18,8 @@ use Rattle.am_types.specs.Fine.{Fine}
 use Rattle.am_types.specs.Verdicts.{verdict}
 use Rattle.am_types.specs.ValidSets.{Valid}
 
--- the two sets, and what was rejected on the way, in order
+-- the two sets, and what was rejected on the way, in order. Meant are sets in which no two members have one hash, within
+-- a set or across the two: of two waiting members with one hash, settling takes away both.
 pub record Sets : Type 0 where
   pub closed : List Member
   pub waiting : List Member

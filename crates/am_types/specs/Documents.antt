@@ -5,6 +5,7 @@
 --     metas C           the change rows of a list of members
 --     suffix C          the places of the heads in the canonical order, where there are any
 --     table C           what the canonical document of the set C says
+--     IsMetaOf C m row  row is the change row of m among C
 --     History t C       C, in this order, are the changes of which the table t tells
 use Rattle.std.specs.Prelude.{ℕ, ◌≡◌, List, [], ◌∷◌, ◌++◌, map, flat_map, Option, Some, None, IsPermutation, All, IsTrue}
 use Rattle.std.specs.List.{AllZip, dedup, position_or_len}

@@ -2,11 +2,14 @@
 --     Fine c             the change c is fine
 --     GoodNumbers c      its numbers are within their limits
 --     FineOp op          the operation op is fine
+--     FineInsertion op, FineDeletion op     it is as an insertion, or a deletion, must be
+--     IsObject o, IsKey k     the ids and names in them are within their limits
 --     IsId i             the counter and the actor of the id i are within their limits
 --     pred_count ops     how many predecessors the operations have in all
 -- What Rust's types say of a change (bytes, hashes of 32 bytes, texts in UTF-8) is part of being fine: each value of the
--- types has it. The numbers are limits of amstore's profile; that dependencies and predecessors ascend, and which keys
--- an insertion, a mark and a deletion may have, come from the Automerge Binary Document Format.
+-- types has it. That dependencies and predecessors ascend, and which keys an insertion and a mark may have, come from the
+-- Automerge Binary Document Format. The limits of the numbers are choices of amstore's profile, and so is that a deletion
+-- has at least one predecessor and no value, expand or mark name.
 use Rattle.std.specs.Prelude.{ℕ, ◌≤◌, ◌<◌, ◌^◌, ◌≡◌, ◌≢◌, ◌<ℤ◌, neg_ℤ, pos, true, false, List, [], length, All, sum_by, None, IfSome, IsUtf8, ⊤}
 use Rattle.am_types.specs.Actions as actions
 use Rattle.am_types.specs.Actors.{IsActor}

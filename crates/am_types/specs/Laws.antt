@@ -1,21 +1,21 @@
 -- Laws over the definitions. Each is the contract of a function of the same name, which does nothing.
-use Rattle.std.specs.Prelude.{ℕ, ℤ, ◌+◌, ◌<◌, ◌^◌, ◌≡◌, ◌↔◌, false, List, [], ◌++◌, filter, map, Some, All, Contains, IsTrue, IsSorted, IsPermutation, FitsSigned, Bool}
+use Rattle.std.specs.Prelude.{ℕ, ℤ, ◌+◌, ◌<◌, ◌^◌, ◌≡◌, ◌≢◌, ◌↔◌, false, List, [], ◌++◌, filter, map, Some, None, All, Contains, IsTrue, IsSorted, IsPermutation, FitsSigned, Bool}
 use Rattle.std.specs.Int.{w64}
 use Rattle.std.specs.Cmp.{IsTotalOrder}
 use Rattle.std.specs.declared.cmp.Ordering.{Ordering}
-use Rattle.std.specs.declared.cmp.Ordering.TheVariants.{Equal}
+use Rattle.std.specs.declared.cmp.Ordering.TheVariants.{Equal, Greater}
 use Rattle.am_leb.specs.Leb.{IsUleb, IsLeb}
 use Rattle.am_types.specs.Bytes.{IsBytes}
 use Rattle.am_types.specs.Records.{OpId, Hash, ObjId, Change, Fits}
 use Rattle.am_types.specs.Order.{id_cmp, hash_cmp, sorted_by}
 use Rattle.am_types.specs.Numbers.{unsigned_of, signed_of}
 use Rattle.am_types.specs.Same.{same_change}
-use Rattle.am_types.specs.Operations.{Operation, all_operations, ascending, DistinctIds}
-use Rattle.am_types.specs.Members.{Member, changes, holds, heads}
+use Rattle.am_types.specs.Operations.{Operation, all_operations, ascending, DistinctIds, OneOperationPerId}
+use Rattle.am_types.specs.Members.{Member, changes, holds, holds_deps, heads, IsClosed, DistinctHashes}
 use Rattle.am_types.specs.Ancestors.{ancestors, IsLeastPart}
-use Rattle.am_types.specs.Verdicts.{verdict, NoReasonApplies}
+use Rattle.am_types.specs.Verdicts.{verdict, limit_passed, NoReasonApplies}
 use Rattle.am_types.specs.ValidSets.{Valid, JoinInTurn}
-use Rattle.am_types.specs.Deliver.{Sets, settle, IsSettled, TakesOne, Waits}
+use Rattle.am_types.specs.Deliver.{Sets, settle, IsSettled, TakesOne, MayCome, Waits}
 use Rattle.am_types.specs.Elements.{elements, part, RespectsReferences}
 use Rattle.am_types.specs.Replay.{replay}
 use Rattle.am_types.specs.Rows.{rows}
@@ -40,11 +40,11 @@ pub record SortsOnce {X : Type 0} (cmp : X → X → Ordering) : Type 0 where
   pub in_order : (xs : List X) → IsSorted cmp (sorted_by cmp xs)
   pub once : (xs ys : List X) → IsPermutation xs ys → sorted_by cmp ys ≡ sorted_by cmp xs
 
--- sorting ids, hashes, and operations of which no two have one id
+-- sorting ids, hashes, and operations of which those with one id are one
 abbrev pub SortingIsFree : Type 0
 SortingIsFree =
     SortsOnce id_cmp × SortsOnce hash_cmp
-    × ((A B : List Operation) → DistinctIds A → IsPermutation A B → ascending B ≡ ascending A)
+    × ((A B : List Operation) → OneOperationPerId A → IsPermutation A B → ascending B ≡ ascending A)
 
 -- ---- values and changes
 
@@ -64,9 +64,24 @@ SameIsEqual = (a b : Change) → IsTrue (same_change a b) ↔ (a ≡ b)
 abbrev pub AncestorsAreLeast : Type 0
 AncestorsAreLeast = (C : List Member) (hs : List Hash) → IsLeastPart C hs (ancestors C hs)
 
+-- the ancestors stand in the order in which the set lists them
+abbrev pub AncestorsKeepOrder : Type 0
+AncestorsKeepOrder = (C : List Member) (hs : List Hash) → ancestors C hs ≡ filter (λ m. holds (ancestors C hs) m.hash) C
+
 -- a change fits exactly where no reason against it applies
 abbrev pub FitsExactly : Type 0
 FitsExactly = (C : List Member) (c : Change) → (verdict C c ≡ Fits) ↔ NoReasonApplies C c
+
+-- what the members of a valid set are together
+pub record KeepsRules (C : List Member) : Type 0 where
+  pub closed : IsClosed C
+  pub hashes : DistinctHashes C
+  pub members : All MayCome C
+  pub limits : limit_passed (changes C) ≡ None
+
+-- a valid set is closed, its hashes are distinct, its members may come, and it is within the limits
+abbrev pub ValidSetsKeepRules : Type 0
+ValidSetsKeepRules = (C : List Member) → Valid C → KeepsRules C
 
 -- in a valid set no two operations have one id
 abbrev pub IdsAreDistinct : Type 0
@@ -74,17 +89,30 @@ IdsAreDistinct = (C : List Member) → Valid C → DistinctIds (all_operations (
 
 -- ---- settling
 
--- settling admits the first ready change and goes on, leaves settled sets as they are, and leaves nothing ready
+-- first is a waiting member whose dependencies are held, and none of these has a lesser hash
+pub record IsLeastReady (s : Sets) (first : Member) : Type 0 where
+  pub waits : Contains s.waiting first
+  pub deps : IsTrue (holds_deps s.closed first.change)
+  pub least : (m : Member) → Contains s.waiting m → IsTrue (holds_deps s.closed m.change) → hash_cmp first.hash m.hash ≢ Greater
+
+-- settling admits the ready change of least hash and goes on, leaves settled sets as they are, and leaves nothing ready
 pub record SettlesInTurn : Type 0 where
+  pub takes_least : (s t : Sets) (taken : TakesOne s t) → IsLeastReady s taken.first
   pub goes_on : (s t : Sets) → TakesOne s t → settle s ≡ settle t
   pub stays : (s : Sets) → IsSettled s → settle s ≡ s
   pub ends : (s : Sets) → IsSettled (settle s)
 
 -- settling keeps that each closed change joins those before it
 abbrev pub SettlingKeepsOrder : Type 0
-SettlingKeepsOrder = (s : Sets) → JoinInTurn [] s.closed → All (Waits s.closed) s.waiting → JoinInTurn [] (settle s).closed
+SettlingKeepsOrder = (s : Sets) → DistinctHashes (s.closed ++ s.waiting) → JoinInTurn [] s.closed → All (Waits s.closed) s.waiting
+    → JoinInTurn [] (settle s).closed
 
 -- ---- what is read off a set
+
+-- two sets have the same ancestors of some hashes, and so the same is visible at these
+pub record SeesAlike (C D : List Member) (hs : List Hash) : Type 0 where
+  pub members : IsPermutation (ancestors C hs) (ancestors D hs)
+  pub visible : replay (all_operations (changes (ancestors D hs))) ≡ replay (all_operations (changes (ancestors C hs)))
 
 -- two listings give the same
 pub record ReadsAlike (C D : List Member) : Type 0 where
@@ -94,6 +122,7 @@ pub record ReadsAlike (C D : List Member) : Type 0 where
   pub heads : heads D ≡ heads C
   pub order : order D ≡ order C
   pub table : table D ≡ table C
+  pub at : (hs : List Hash) → SeesAlike C D hs
 
 -- what is read off a valid set doesn't depend on how it is listed
 abbrev pub ListingIsFree : Type 0
@@ -118,7 +147,11 @@ pub record ReadsOfAncestors (C : List Member) (hs : List Hash) : Type 0 where
 abbrev pub AncestorsAreRead : Type 0
 AncestorsAreRead = (C : List Member) → Valid C → (hs : List Hash) → ReadsOfAncestors C hs
 
--- the ancestors of members of a valid set, and so what is read at them, stay the same when other members come
+-- what is visible at members of a valid set is the same in every valid set that has all its members
+abbrev pub ViewsStay : Type 0
+ViewsStay = (C D : List Member) (hs : List Hash) → Valid C → Valid D → All (Contains D) C → All (λ h. IsTrue (holds C h)) hs → SeesAlike C D hs
+
+-- the ancestors of members of a valid set are listed alike when other members are listed behind them
 abbrev pub AncestorsStay : Type 0
 AncestorsStay = (C E : List Member) (hs : List Hash) → Valid C → All (λ h. IsTrue (holds C h)) hs → All (λ m. holds C m.hash ≡ false) E
     → ancestors (C ++ E) hs ≡ ancestors C hs

@@ -5,9 +5,10 @@
 --     member C h              the first member of C with the hash h
 --     holds_deps C c          each dependency of c is the hash of a member of C
 --     IsClosed C              each dependency of a member is the hash of a member
+--     NoRepeats C             no member of C is listed twice
 --     DistinctHashes C        no two members of C have one hash
 --     DepsFirst [] C          each dependency of a member is the hash of one before it
---     heads C                 the hashes, ascending, that no member has as a dependency
+--     heads C                 the hashes of the members on which no member depends, ascending
 use Rattle.std.specs.Prelude.{Bool, not, ◌≢◌, List, [], ◌∷◌, ◌++◌, map, filter, find, Option, All, AllPairs, IsTrue, ⊤}
 use Rattle.std.specs.List.{list_any, list_all}
 use Rattle.am_types.specs.Records.{Hash, Change}
@@ -35,6 +36,9 @@ holds_deps C c = list_all (holds C) c.deps
 
 abbrev pub IsClosed : List Member → Type 0
 IsClosed C = All (λ m. IsTrue (holds_deps C m.change)) C
+
+abbrev pub NoRepeats : List Member → Type 0
+NoRepeats C = AllPairs (λ m n. m ≢ n) C
 
 abbrev pub DistinctHashes : List Member → Type 0
 DistinctHashes C = AllPairs (λ m n. m.hash ≢ n.hash) C

@@ -4,10 +4,11 @@
 --     all_operations cs      the operations of each of the changes
 --     operation_cmp          the order of operations: by their ids
 --     ascending A            the operations A in ascending id
---     DistinctIds A          no two operations of A have one id
+--     DistinctIds A          no two operations of A have one id, so none is listed twice
+--     OneOperationPerId A    operations of A with one id are one operation
 --     max c                  the counter of the last operation of c
 --     slot x                 what x gives a value to: of an insertion the element that it makes, else its key
-use Rattle.std.specs.Prelude.{ℕ, ◌≡◌, ◌+◌, ◌-◌, Contains, List, [], ◌∷◌, length, flat_map, if◌then◌else◌}
+use Rattle.std.specs.Prelude.{ℕ, ◌≡◌, ◌≢◌, ◌+◌, ◌-◌, AllPairs, Contains, List, [], ◌∷◌, length, flat_map, if◌then◌else◌}
 use Rattle.std.specs.Ordering.{on}
 use Rattle.std.specs.declared.cmp.Ordering.{Ordering}
 use Rattle.am_types.specs.Records.{OpId, Key, Elem, Op, Change}
@@ -36,7 +37,10 @@ abbrev pub ascending : List Operation → List Operation
 ascending A = sorted_by operation_cmp A
 
 abbrev pub DistinctIds : List Operation → Type 0
-DistinctIds A = (x y : Operation) → Contains A x → Contains A y → x.id ≡ y.id → x ≡ y
+DistinctIds A = AllPairs (λ x y. x.id ≢ y.id) A
+
+abbrev pub OneOperationPerId : List Operation → Type 0
+OneOperationPerId A = (x y : Operation) → Contains A x → Contains A y → x.id ≡ y.id → x ≡ y
 
 abbrev pub max : Change → ℕ
 max c = c.start + length c.ops - 1

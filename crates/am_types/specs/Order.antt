@@ -7,6 +7,7 @@
 --     among cmp xs x      x is among xs
 --     sorted_by cmp xs    xs in ascending order
 --     Ascends cmp xs      each of xs is below the next
+--     put_in_order cmp x xs     x put at its place among the ascending xs
 -- The order of ids is that of the Automerge Binary Document Format (Lamport timestamps). The others are choices of
 -- amstore's profile.
 use Rattle.std.specs.Prelude.{ℕ, Bool, ◌≡◌, List, [], ◌∷◌, length, if◌then◌else◌}

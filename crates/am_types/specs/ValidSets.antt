@@ -3,13 +3,13 @@
 --     JoinInTurn [] C        each member of C joins those before it
 --     Valid C                the members of C can be listed so that each joins those before it
 --     IsValidSet cs          there are hashes with which the changes cs are a valid set
---     IsGreatest D C         C is the union of all valid sets within D
+--     IsGreatest D C         C, without repeats, has just the members that stand in some valid set within D
 -- `Valid` and `Reachable` hold a listing, so a ghost field with one of them wants ∥ ∥₁ round it.
 use Rattle.std.specs.Prelude.{◌≡◌, ◌↔◌, false, List, [], ◌∷◌, ◌++◌, All, Contains, IsTrue, IsPermutation, ⊤}
 use Rattle.am_types.specs.Bytes.{IsHash}
 use Rattle.am_types.specs.Records.{Change, Fits}
 use Rattle.am_types.specs.Fine.{Fine}
-use Rattle.am_types.specs.Members.{Member, changes, holds, holds_deps}
+use Rattle.am_types.specs.Members.{Member, changes, holds, holds_deps, NoRepeats}
 use Rattle.am_types.specs.Verdicts.{verdict}
 
 pub record Joins (before : List Member) (m : Member) : Type 0 where
@@ -40,5 +40,6 @@ pub record Reachable (D : List Member) (m : Member) : Type 0 where
   pub within : All (Contains D) set
   pub has : Contains set m
 
-abbrev pub IsGreatest : List Member → List Member → Type 0
-IsGreatest D C = (m : Member) → Contains C m ↔ Reachable D m
+pub record IsGreatest (D C : List Member) : Type 0 where
+  pub once : NoRepeats C
+  pub members : (m : Member) → Contains C m ↔ Reachable D m

@@ -18,6 +18,7 @@ pub struct Op {
     pub insert: bool,
     /// 0 makeMap, 1 set, 2 makeList, 3 del, 4 makeText, 5 inc, 6 makeTable, 7 mark.
     pub action: u8,
+    /// The value that it carries: what it sets, or what it adds to a counter.
     pub value: RawValue,
     /// The operations that it replaces, deletes or adds to.
     pub preds: List<OpId>,
@@ -30,8 +31,9 @@ pub struct Op {
 /// A batch of operations that one actor made at once. (Automerge Binary Document Format, "change chunks".)
 #[derive(Debug, PartialEq, Eq, Drop)]
 pub struct Change {
-    /// The hashes of the changes that the author had seen, without those that others of them name.
+    /// The hashes of the changes that it builds on; with their ancestors, all that its author had seen.
     pub deps: List<Hash>,
+    /// Who made it.
     pub actor: ActorId,
     /// 1 for the actor's first change, and one more for each later one.
     pub seq: u64,
@@ -39,7 +41,9 @@ pub struct Change {
     pub start: u64,
     /// When it was made, in milliseconds since 1970.
     pub time: i64,
+    /// What its author noted about it, often nothing.
     pub message: Text,
+    /// Its operations; there may be none.
     pub ops: List<Op>,
     /// Bytes of a later version of the format.
     pub extra: Bytes,

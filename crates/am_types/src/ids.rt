@@ -6,14 +6,18 @@ use crate::text::Text;
 /// Document Format, "operation IDs".)
 #[derive(Debug, PartialEq, Eq, Drop)]
 pub struct OpId {
+    /// From 1 to 2^53 - 1 in a fine change.
     pub counter: u64,
+    /// Who made the operation.
     pub actor: ActorId,
 }
 
 /// An object: the map that every document begins with, or what the operation with this id made.
 #[derive(Debug, PartialEq, Eq, Drop)]
 pub enum ObjId {
+    /// The map that every document begins with.
     Root,
+    /// What the operation with this id made.
     Made(OpId),
 }
 
@@ -21,7 +25,10 @@ pub enum ObjId {
 /// operation with this id inserted.
 #[derive(Debug, PartialEq, Eq, Drop)]
 pub enum Key {
+    /// A name in a map or a table.
     Name(Text),
+    /// The front of a list or a text.
     Head,
+    /// The element that the operation with this id inserted.
     Elem(OpId),
 }

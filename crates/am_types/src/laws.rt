@@ -1,5 +1,5 @@
 //! Laws over the definitions. Each function does nothing; its contract is the law.
-ghost use Rattle.am_types.specs.Laws.{OrdersAreStrict, SortingIsFree, NumbersAreShortest, SameIsEqual, AncestorsAreLeast, FitsExactly, IdsAreDistinct, SettlesInTurn, SettlingKeepsOrder, ListingIsFree, DepthCounts, ElementsOfPart, AncestorsAreRead, AncestorsStay};
+ghost use Rattle.am_types.specs.Laws.{OrdersAreStrict, SortingIsFree, NumbersAreShortest, SameIsEqual, AncestorsAreLeast, AncestorsKeepOrder, FitsExactly, ValidSetsKeepRules, IdsAreDistinct, SettlesInTurn, SettlingKeepsOrder, ListingIsFree, DepthCounts, ElementsOfPart, AncestorsAreRead, ViewsStay, AncestorsStay};
 
 /// Ids are totally ordered, hashes too, and only equal ones tie.
 #[tactic(auto, using(crate::proofs::Proved::orders_are_strict))]
@@ -31,10 +31,20 @@ pub fn ancestors_are_least()
     ensures { AncestorsAreLeast }
 {}
 
+/// The ancestors of some members stand in the order in which the set lists them.
+pub fn ancestors_keep_order()
+    ensures { AncestorsKeepOrder }
+{}
+
 /// A change fits a set exactly where none of the five reasons applies.
 #[tactic(auto, using(crate::proofs::Proved::fits_exactly))]
 pub fn fits_exactly()
     ensures { FitsExactly }
+{}
+
+/// A valid set is closed, no two of its members have one hash, each of them may come, and it is within the limits.
+pub fn valid_sets_keep_rules()
+    ensures { ValidSetsKeepRules }
 {}
 
 /// In a valid set no two operations have one id.
@@ -42,19 +52,20 @@ pub fn ids_are_distinct()
     ensures { IdsAreDistinct }
 {}
 
-/// Settling admits the ready changes one by one, ends, and leaves none ready.
+/// Settling admits the ready changes one by one, the one of least hash first, ends, and leaves none ready.
 #[tactic(auto, using(crate::proofs::Proved::settles_in_turn))]
 pub fn settles_in_turn()
     ensures { SettlesInTurn }
 {}
 
-/// What settling leaves in the closed set joins one after the other, where it did before.
+/// What settling leaves in the closed set joins one after the other, where it did before and no hash comes twice.
 #[tactic(auto, using(crate::proofs::Proved::settling_keeps_order))]
 pub fn settling_keeps_order()
     ensures { SettlingKeepsOrder }
 {}
 
-/// Elements, entries, rows, heads, the canonical order and the table of a valid set don't depend on how it is listed.
+/// Elements, entries, rows, heads, the canonical order and the table of a valid set, and what is visible at any heads,
+/// don't depend on how it is listed.
 pub fn listing_is_free()
     ensures { ListingIsFree }
 {}
@@ -76,7 +87,12 @@ pub fn ancestors_are_read()
     ensures { AncestorsAreRead }
 {}
 
-/// The ancestors of members of a valid set stay the same when other members come.
+/// What is visible at members of a valid set is the same in every valid set that has all its members.
+pub fn views_stay()
+    ensures { ViewsStay }
+{}
+
+/// The ancestors of members of a valid set are listed alike when other members are listed behind them.
 #[tactic(auto, using(crate::proofs::Proved::ancestors_stay_valid))]
 pub fn ancestors_stay()
     ensures { AncestorsStay }

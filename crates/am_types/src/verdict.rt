@@ -17,6 +17,7 @@ pub enum Limit {
 /// Whether a change fits a valid set of changes, or the first reason why it doesn't.
 #[derive(Clone, Copy, Debug, PartialEq, Eq)]
 pub enum Verdict {
+    /// No reason against it applies.
     Fits,
     /// The member with this hash has the same actor and seq.
     SeqClash(Hash),
@@ -35,17 +36,23 @@ pub enum Verdict {
 pub enum Why {
     /// Another change with the same hash is held.
     HashClash,
-    /// The others as in [`Verdict`].
+    /// The member with this hash has the same actor and seq.
     SeqClash(Hash),
+    /// The actor's change before it is not among its ancestors.
     SeqGap,
+    /// This dependency has an operation whose counter is not below the change's start.
     StartLow(Hash),
+    /// The operation at this place, from 0, names what is not there.
     BadReference(u64),
+    /// This limit would be passed.
     Full(Limit),
 }
 
 /// A rejected change.
 #[derive(Clone, Copy, Debug, PartialEq, Eq)]
 pub struct Rejected {
+    /// The hash of the change.
     pub hash: Hash,
+    /// The first reason.
     pub why: Why,
 }

@@ -1,0 +1,5 @@
+use Rattle.am_types.proofs.Proved as proved
+use Rattle.am_types.proofs.laws.valid_sets_keep_rules.Goals as goal
+
+pub returns : goal.returns
+returns c = proved.valid_sets_keep_rules
