@@ -17,7 +17,7 @@ use Rattle.am_types.specs.declared.Key.{Key}
 use Rattle.am_types.specs.declared.Key.TheVariants.{Name, Head, Elem}
 use Rattle.am_types.specs.Order.{id_cmp, put_in_order, sorted_by}
 use Rattle.am_types.specs.Same.{same_id}
-use Rattle.am_types.specs.Operations.{Operation, DistinctIds, operation_cmp, ascending}
+use Rattle.am_types.specs.Operations.{Operation, OneOperationPerId, operation_cmp, ascending}
 use Rattle.am_types.specs.Elements.{put_after, put_at, elements, inserts_into, insertions}
 use Rattle.am_types.proofs.Orders.{id_total, id_exact, same_id-true, same_id_itself}
 use Rattle.am_types.proofs.Sorting.{put_commute, IsPermutation-sorted_by}
@@ -166,7 +166,7 @@ none_above_nothing (x ∷ xs) = (tt, none_above_nothing xs)
 
 -- ---- the law
 
-pub put_in_turn-elements : (A : List Operation) (o : ObjId) (xs : List Operation) → DistinctIds (into o A) → IsPermutation (into o A) xs → RefersBack xs → AllByRecursion IsAboveReference xs → put_in_turn [] xs ≡ elements A o
+pub put_in_turn-elements : (A : List Operation) (o : ObjId) (xs : List Operation) → OneOperationPerId (into o A) → IsPermutation (into o A) xs → RefersBack xs → AllByRecursion IsAboveReference xs → put_in_turn [] xs ≡ elements A o
 unfolding elements
 put_in_turn-elements A o xs distinct h back above =
     put_in_turn-ascending xs [] back above
@@ -210,7 +210,7 @@ RefersBack-append [] ys a b not = b
 RefersBack-append (x ∷ xs) ys a b not = (AllByRecursion-append _ xs ys a.0 not.0, RefersBack-append xs ys a.1 b not.1)
 
 -- more insertions, put in turn into the elements that stand, give the elements of all
-pub put_in_turn-more : (A B : List Operation) (o : ObjId) (xs : List Operation) → DistinctIds (into o (A ++ B)) → IsPermutation (into o B) xs → RefersBack xs → RefersNot (into o A) xs → AllByRecursion IsAboveReference (into o A) → AllByRecursion IsAboveReference xs → put_in_turn (elements A o) xs ≡ elements (A ++ B) o
+pub put_in_turn-more : (A B : List Operation) (o : ObjId) (xs : List Operation) → OneOperationPerId (into o (A ++ B)) → IsPermutation (into o B) xs → RefersBack xs → RefersNot (into o A) xs → AllByRecursion IsAboveReference (into o A) → AllByRecursion IsAboveReference xs → put_in_turn (elements A o) xs ≡ elements (A ++ B) o
 put_in_turn-more A B o xs distinct h back apart above_old above_new =
     let old : List Operation = ascending (into o A) in
     let stand : put_in_turn [] old ≡ elements A o = ap (put_in_turn []) (sym (filter-sorted_by operation_total (inserts_into o) A)) ∙ put_in_turn-insertions A o in
