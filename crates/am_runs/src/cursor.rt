@@ -1,12 +1,14 @@
 //! A cursor over the items of a column. It takes no memory.
-ghost use Rattle.std.specs.Prelude.{◌≡◌, ◌<◌, ◌≤◌, ◌++◌, ◌∷◌, [], ℕ, List, Option, length, take, drop, IfOk, IfSome, IfNone, OnErr, replicate};
+ghost use Rattle.std.specs.Prelude.{◌≡◌, ◌<◌, ◌≤◌, ◌++◌, ◌∷◌, [], ℕ, List, Option, length, take, drop, Some, IfOk, IfSome, IfNone, OnErr, replicate};
 ghost use Rattle.std.specs.Option.{option_copied};
+ghost use Rattle.am_leb.specs.Leb.{unsigned_value, signed_value};
 ghost use Rattle.am_runs.specs.Runs.{JoinsRuns};
 
 use crate::fault::BadRun;
-use crate::item::Item;
+use crate::item::{Item, SignedItem, UnsignedItem};
 use crate::likeness::alike;
-use crate::place::{Kind, Position, stepped};
+use crate::literal::{signed_in, unsigned_in};
+use crate::place::{Kind, Position, opened, stepped};
 use crate::run::run_at;
 use crate::skipping::skipped;
 use crate::taking::taken;
@@ -100,6 +102,28 @@ impl<'a, K: Item> RunCursor<'a, K> {
         }
     }
 
+    // Opens the next run where none is being read. No entry is taken.
+    #[inline(always)]
+    pub(crate) fn enter(&mut self)
+        ensures { self.new ≡ self.old }
+    {
+        if self.at.count > 0 {
+            return;
+        }
+        if self.left == 0 {
+            return;
+        }
+        match opened::<K>(self.at.rest) {
+            None => {}
+            Some(at) => {
+                if at.count == 0 {
+                    return;
+                }
+                self.at = at;
+            }
+        }
+    }
+
     // The next entry with all those like it that its run still gives.
     #[inline(always)]
     pub(crate) fn next_alike(&mut self) -> Option<(Option<&'a [u8]>, u64)>
@@ -134,6 +158,58 @@ impl<'a, K: Item> RunCursor<'a, K> {
                 self.left -= 1;
                 Some(entry)
             }
+        }
+    }
+}
+
+impl<'a> RunCursor<'a, UnsignedItem> {
+    // The next number, while a literal run is being read.
+    #[inline(always)]
+    pub(crate) fn literal_number(&mut self) -> Option<u64>
+        ensures found { IfSome result (λ n. (item : List ℕ) × (n ≡ unsigned_value item) × (self.old ≡ Some item ∷ self.new)) }
+        ensures none { IfNone result (self.new ≡ self.old) }
+    {
+        if self.at.count == 0 {
+            return None;
+        }
+        if self.left == 0 {
+            return None;
+        }
+        match self.at.kind {
+            Kind::Literal => match unsigned_in(&mut self.at) {
+                None => None,
+                Some((n, _)) => {
+                    self.left -= 1;
+                    Some(n)
+                }
+            },
+            _ => None,
+        }
+    }
+}
+
+impl<'a> RunCursor<'a, SignedItem> {
+    // The next number, while a literal run is being read.
+    #[inline(always)]
+    pub(crate) fn literal_number(&mut self) -> Option<i64>
+        ensures found { IfSome result (λ n. (item : List ℕ) × (n ≡ signed_value item) × (self.old ≡ Some item ∷ self.new)) }
+        ensures none { IfNone result (self.new ≡ self.old) }
+    {
+        if self.at.count == 0 {
+            return None;
+        }
+        if self.left == 0 {
+            return None;
+        }
+        match self.at.kind {
+            Kind::Literal => match signed_in(&mut self.at) {
+                None => None,
+                Some((n, _)) => {
+                    self.left -= 1;
+                    Some(n)
+                }
+            },
+            _ => None,
         }
     }
 }

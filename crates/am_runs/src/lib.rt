@@ -7,6 +7,7 @@ mod item;
 mod judge;
 mod laws;
 mod likeness;
+mod literal;
 mod pending;
 mod place;
 mod run;

@@ -110,6 +110,11 @@ impl<'a> SignedCursor<'a> {
             self.more -= 1;
             return Some(self.value);
         }
+        self.runs.enter();
+        match self.runs.literal_number() {
+            Some(n) => return Some(Some(n)),
+            None => {}
+        }
         match self.runs.next_alike() {
             None => None,
             Some((entry, k)) => {
