@@ -18,3 +18,4 @@ pub mod Sights
 pub mod Onward
 pub mod Spellings
 pub mod Taken
+pub mod TextSpellings
