@@ -19,3 +19,4 @@ pub mod Onward
 pub mod Spellings
 pub mod Taken
 pub mod TextSpellings
+pub mod LiteralTexts

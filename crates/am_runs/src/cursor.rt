@@ -2,12 +2,13 @@
 ghost use Rattle.std.specs.Prelude.{◌≡◌, ◌<◌, ◌≤◌, ◌++◌, ◌∷◌, [], ℕ, List, Option, length, take, drop, Some, IfOk, IfSome, IfNone, OnErr, replicate};
 ghost use Rattle.std.specs.Option.{option_copied};
 ghost use Rattle.am_leb.specs.Leb.{unsigned_value, signed_value};
+ghost use Rattle.am_runs.specs.Items.{text_of};
 ghost use Rattle.am_runs.specs.Runs.{JoinsRuns};
 
 use crate::fault::BadRun;
-use crate::item::{Item, SignedItem, UnsignedItem};
+use crate::item::{Item, SignedItem, TextItem, UnsignedItem};
 use crate::likeness::alike;
-use crate::literal::{signed_in, unsigned_in};
+use crate::literal::{signed_in, text_behind, unsigned_in};
 use crate::place::{Kind, Position, opened, stepped};
 use crate::run::run_at;
 use crate::skipping::skipped;
@@ -35,6 +36,7 @@ impl<'a, K: Item> Model for RunCursor<'a, K> {
 }
 
 impl<'a, K: Item> RunCursor<'a, K> {
+    /// A cursor before the first of the entries that the bytes join, nulls among them. `most` bounds how many there may be; `BadRun` where the bytes join no such list, or a longer one.
     pub fn over(bytes: &'a [u8], most: u64) -> Result<Self, BadRun>
         ensures ok { IfOk result (λ list. JoinsRuns K.end_of bytes.now list × (length list ≤ most)) }
         ensures err { OnErr result ((list : List (Option (List ℕ))) → JoinsRuns K.end_of bytes.now list → most < length list) }
@@ -62,6 +64,7 @@ impl<'a, K: Item> RunCursor<'a, K> {
         })
     }
 
+    /// How many entries are left.
     pub fn left(&self) -> u64
         ensures { result ≡ length self.now }
     {
@@ -143,6 +146,7 @@ impl<'a, K: Item> RunCursor<'a, K> {
         }
     }
 
+    /// The next entry, which may be null; nothing at the end.
     #[inline(always)]
     pub fn next(&mut self) -> Option<Option<&'a [u8]>>
         ensures end { IfNone result ((self.old ≡ []) × (self.new ≡ [])) }
@@ -207,6 +211,32 @@ impl<'a> RunCursor<'a, SignedItem> {
                 Some((n, _)) => {
                     self.left -= 1;
                     Some(n)
+                }
+            },
+            _ => None,
+        }
+    }
+}
+
+impl<'a> RunCursor<'a, TextItem> {
+    // The next text, while a literal run is being read.
+    #[inline(always)]
+    pub(crate) fn literal_text(&mut self) -> Option<&'a str>
+        ensures found { IfSome result (λ text. (item : List ℕ) × (text.now ≡ text_of item) × (self.old ≡ Some item ∷ self.new)) }
+        ensures none { IfNone result (self.new ≡ self.old) }
+    {
+        if self.at.count == 0 {
+            return None;
+        }
+        if self.left == 0 {
+            return None;
+        }
+        match self.at.kind {
+            Kind::Literal => match text_behind(&mut self.at) {
+                None => None,
+                Some((text, _)) => {
+                    self.left -= 1;
+                    Some(text)
                 }
             },
             _ => None,
