@@ -52,12 +52,12 @@ step-opened end p q z h e = ap (λ n. step_at end n p) z ∙ ap (within_opened e
     same zero h = absurd (omega arith)
     same (suc n) h = refl
 
-from_same : (end : List ℕ → Option ℕ) (n : ℕ) (p q : Place) → 0 < n → step end p ≡ step end q → HasEntries end n p → HasEntries end n q
+pub from_same : (end : List ℕ → Option ℕ) (n : ℕ) (p q : Place) → 0 < n → step end p ≡ step end q → HasEntries end n p → HasEntries end n q
 unfolding HasEntries
 from_same end zero p q h e w = absurd (omega arith)
 from_same end (suc n) p q h e w = subst (holds_behind (HasEntries end n)) e w
 
-entries_same : (end : List ℕ → Option ℕ) (n : ℕ) (p q : Place) → 0 < n → step end p ≡ step end q → entries end n p ≡ entries end n q
+pub entries_same : (end : List ℕ → Option ℕ) (n : ℕ) (p q : Place) → 0 < n → step end p ≡ step end q → entries end n p ≡ entries end n q
 unfolding entries
 entries_same end zero p q h e = absurd (omega arith)
 entries_same end (suc n) p q h e = ap (listed (entries end n)) e

@@ -18,3 +18,5 @@ pub mod Sights
 pub mod Onward
 pub mod Spellings
 pub mod Taken
+pub mod TextSpellings
+pub mod LiteralTexts

@@ -1,13 +1,12 @@
 -- Equal entries taken at once, and what a cursor shows that holds some of them.
-use Rattle.std.proofs.Common.{◌≡◌, ℕ, suc, zero, ◌+◌, ◌-◌, ◌^◌, ◌<◌, ◌≤◌, List, [], ◌∷◌, ◌++◌, length, take, drop, map, Option, Some, None, refl, sym, ap, ◌∙◌, subst, arith, length-append}
+use Rattle.std.proofs.Common.{◌≡◌, ℕ, suc, zero, ◌+◌, ◌-◌, ◌<◌, ◌≤◌, List, [], ◌∷◌, ◌++◌, length, take, drop, map, Option, Some, None, refl, sym, ap, ◌∙◌, subst, arith, length-append}
 use Rattle.std.specs.Prelude.{replicate}
 use Rattle.std.specs.Option.{IfSome, option_map}
-use Rattle.std.specs.List.{AllByRecursion}
 use Rattle.std.proofs.lemmas.List.{take-append-drop, length-replicate, length-map, take_at}
 use Rattle.am_runs.specs.declared.place.Kind.TheVariants as kinds
 use Rattle.am_runs.specs.Items.{IsItem}
 use Rattle.am_runs.specs.Typed.{AllItems}
-use Rattle.am_runs.specs.Walking.{Place, step, entries, HasEntries, Jumps, AreAlike, Takes}
+use Rattle.am_runs.specs.Walking.{Place, step, entries, HasEntries, Takes}
 use Rattle.am_runs.proofs.Jumping.{Jumps-one, jump_repeat, jump_nulls, found_same}
 use Rattle.am_runs.proofs.LikeEntries.{alike_one, alike_repeat, alike_nulls, alike_same}
 

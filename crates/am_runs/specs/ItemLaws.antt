@@ -80,7 +80,7 @@ text_stands bytes front text rest n len e l m u r =
     let v : is_utf8 (take n (drop len bytes)) ≡ true = ap is_utf8 t ∙ u in
     ap (text_end_by bytes) r ∙ ap (λ b. cond (b && is_utf8 (take n (drop len bytes))) (Some (len + n)) None) a ∙ ap (λ b. cond b (Some (len + n)) None) v
 
-front_parts : (bytes : List ℕ) (len n : ℕ) → len + n ≤ length bytes → take (len + n) bytes ≡ take len bytes ++ (take n (drop len bytes) ++ [])
+pub front_parts : (bytes : List ℕ) (len n : ℕ) → len + n ≤ length bytes → take (len + n) bytes ≡ take len bytes ++ (take n (drop len bytes) ++ [])
 front_parts bytes len n h =
     let whole = take (len + n) bytes in
     let first : take len whole ≡ take len bytes = ap (take len) (ap (λ b. take (len + n) b) (sym (take-append-drop len bytes)) ∙ first_part) ∙ take_at (take len bytes) (take n (drop len bytes)) len (length-take-le len bytes (omega arith)) in

@@ -1,12 +1,15 @@
 //! A cursor over the items of a column. It takes no memory.
-ghost use Rattle.std.specs.Prelude.{◌≡◌, ◌<◌, ◌≤◌, ◌++◌, ◌∷◌, [], ℕ, List, Option, length, take, drop, IfOk, IfSome, IfNone, OnErr, replicate};
+ghost use Rattle.std.specs.Prelude.{◌≡◌, ◌<◌, ◌≤◌, ◌++◌, ◌∷◌, [], ℕ, List, Option, length, take, drop, Some, IfOk, IfSome, IfNone, OnErr, replicate};
 ghost use Rattle.std.specs.Option.{option_copied};
+ghost use Rattle.am_leb.specs.Leb.{unsigned_value, signed_value};
+ghost use Rattle.am_runs.specs.Items.{text_of};
 ghost use Rattle.am_runs.specs.Runs.{JoinsRuns};
 
 use crate::fault::BadRun;
-use crate::item::Item;
+use crate::item::{Item, SignedItem, TextItem, UnsignedItem};
 use crate::likeness::alike;
-use crate::place::{Kind, Position, stepped};
+use crate::literal::{signed_in, text_behind, unsigned_in};
+use crate::place::{Kind, Position, opened, stepped};
 use crate::run::run_at;
 use crate::skipping::skipped;
 use crate::taking::taken;
@@ -33,6 +36,7 @@ impl<'a, K: Item> Model for RunCursor<'a, K> {
 }
 
 impl<'a, K: Item> RunCursor<'a, K> {
+    /// A cursor before the first of the entries that the bytes join, nulls among them. `most` bounds how many there may be; `BadRun` where the bytes join no such list, or a longer one.
     pub fn over(bytes: &'a [u8], most: u64) -> Result<Self, BadRun>
         ensures ok { IfOk result (λ list. JoinsRuns K.end_of bytes.now list × (length list ≤ most)) }
         ensures err { OnErr result ((list : List (Option (List ℕ))) → JoinsRuns K.end_of bytes.now list → most < length list) }
@@ -60,6 +64,7 @@ impl<'a, K: Item> RunCursor<'a, K> {
         })
     }
 
+    /// How many entries are left.
     pub fn left(&self) -> u64
         ensures { result ≡ length self.now }
     {
@@ -100,6 +105,28 @@ impl<'a, K: Item> RunCursor<'a, K> {
         }
     }
 
+    // Opens the next run where none is being read. No entry is taken.
+    #[inline(always)]
+    pub(crate) fn enter(&mut self)
+        ensures { self.new ≡ self.old }
+    {
+        if self.at.count > 0 {
+            return;
+        }
+        if self.left == 0 {
+            return;
+        }
+        match opened::<K>(self.at.rest) {
+            None => {}
+            Some(at) => {
+                if at.count == 0 {
+                    return;
+                }
+                self.at = at;
+            }
+        }
+    }
+
     // The next entry with all those like it that its run still gives.
     #[inline(always)]
     pub(crate) fn next_alike(&mut self) -> Option<(Option<&'a [u8]>, u64)>
@@ -119,6 +146,7 @@ impl<'a, K: Item> RunCursor<'a, K> {
         }
     }
 
+    /// The next entry, which may be null; nothing at the end.
     #[inline(always)]
     pub fn next(&mut self) -> Option<Option<&'a [u8]>>
         ensures end { IfNone result ((self.old ≡ []) × (self.new ≡ [])) }
@@ -134,6 +162,84 @@ impl<'a, K: Item> RunCursor<'a, K> {
                 self.left -= 1;
                 Some(entry)
             }
+        }
+    }
+}
+
+impl<'a> RunCursor<'a, UnsignedItem> {
+    // The next number, while a literal run is being read.
+    #[inline(always)]
+    pub(crate) fn literal_number(&mut self) -> Option<u64>
+        ensures found { IfSome result (λ n. (item : List ℕ) × (n ≡ unsigned_value item) × (self.old ≡ Some item ∷ self.new)) }
+        ensures none { IfNone result (self.new ≡ self.old) }
+    {
+        if self.at.count == 0 {
+            return None;
+        }
+        if self.left == 0 {
+            return None;
+        }
+        match self.at.kind {
+            Kind::Literal => match unsigned_in(&mut self.at) {
+                None => None,
+                Some((n, _)) => {
+                    self.left -= 1;
+                    Some(n)
+                }
+            },
+            _ => None,
+        }
+    }
+}
+
+impl<'a> RunCursor<'a, SignedItem> {
+    // The next number, while a literal run is being read.
+    #[inline(always)]
+    pub(crate) fn literal_number(&mut self) -> Option<i64>
+        ensures found { IfSome result (λ n. (item : List ℕ) × (n ≡ signed_value item) × (self.old ≡ Some item ∷ self.new)) }
+        ensures none { IfNone result (self.new ≡ self.old) }
+    {
+        if self.at.count == 0 {
+            return None;
+        }
+        if self.left == 0 {
+            return None;
+        }
+        match self.at.kind {
+            Kind::Literal => match signed_in(&mut self.at) {
+                None => None,
+                Some((n, _)) => {
+                    self.left -= 1;
+                    Some(n)
+                }
+            },
+            _ => None,
+        }
+    }
+}
+
+impl<'a> RunCursor<'a, TextItem> {
+    // The next text, while a literal run is being read.
+    #[inline(always)]
+    pub(crate) fn literal_text(&mut self) -> Option<&'a str>
+        ensures found { IfSome result (λ text. (item : List ℕ) × (text.now ≡ text_of item) × (self.old ≡ Some item ∷ self.new)) }
+        ensures none { IfNone result (self.new ≡ self.old) }
+    {
+        if self.at.count == 0 {
+            return None;
+        }
+        if self.left == 0 {
+            return None;
+        }
+        match self.at.kind {
+            Kind::Literal => match text_behind(&mut self.at) {
+                None => None,
+                Some((text, _)) => {
+                    self.left -= 1;
+                    Some(text)
+                }
+            },
+            _ => None,
         }
     }
 }

@@ -13,6 +13,7 @@ pub trait Item {
     /// The length of the item that begins the bytes.
     ghost end_of: { List ℕ → Option ℕ };
 
+    /// How many bytes the item takes that begins the bytes; nothing where none does.
     fn end(bytes: &[u8]) -> Option<usize>
         ensures exact { result ≡ end_of bytes.now }
         ensures within { IfSome result (λ n. n ≤ length bytes.now) };
@@ -20,6 +21,7 @@ pub trait Item {
     ghost reads: { ReadsItems end_of };
 }
 
+/// Numbers below 2^64, each in its shortest LEB128.
 pub struct UnsignedItem;
 
 impl Item for UnsignedItem {
@@ -38,6 +40,7 @@ impl Item for UnsignedItem {
     }
 }
 
+/// Numbers from -2^63 up to 2^63 - 1, each in its shortest signed LEB128.
 pub struct SignedItem;
 
 impl Item for SignedItem {
@@ -66,6 +69,7 @@ fn is_text(bytes: &[u8]) -> bool
     }
 }
 
+/// Texts in UTF-8, each behind its length in bytes.
 pub struct TextItem;
 
 impl Item for TextItem {

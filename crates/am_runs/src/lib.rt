@@ -7,6 +7,7 @@ mod item;
 mod judge;
 mod laws;
 mod likeness;
+mod literal;
 mod pending;
 mod place;
 mod run;
@@ -26,7 +27,9 @@ pub use item::{
     Item, SignedItem, TextItem, UnsignedItem, signed_items, text_items, unsigned_items,
 };
 pub use judge::is_canonical;
-pub use laws::{canonical_spells, one_spelled_list};
+pub use laws::{
+    canonical_spells, one_signed_list, one_spelled_list, one_text_list, one_unsigned_list,
+};
 pub use signed::SignedCursor;
 pub use text::TextCursor;
 pub use unsigned::UnsignedCursor;

@@ -46,6 +46,7 @@ impl<'a> Model for UnsignedCursor<'a> {
 }
 
 impl<'a> UnsignedCursor<'a> {
+    /// A cursor before the first of the numbers that the bytes join, nulls among them. `most` bounds how many there may be; `BadRun` where the bytes join no such list, or a longer one.
     pub fn over(bytes: &'a [u8], most: u64) -> Result<Self, BadRun>
         ensures ok { IfOk result (λ values. JoinsUnsigned bytes.now values × (length values ≤ most)) }
         ensures err { OnErr result ((values : List (Option ℕ)) → JoinsUnsigned bytes.now values → most < length values) }
@@ -60,12 +61,14 @@ impl<'a> UnsignedCursor<'a> {
         }
     }
 
+    /// How many numbers are left.
     pub fn left(&self) -> u64
         ensures { result ≡ length self.now }
     {
         self.more + self.runs.left()
     }
 
+    /// The same cursor again.
     pub fn again(&self) -> Self
         ensures { result ≡ self.now }
     {
@@ -76,6 +79,7 @@ impl<'a> UnsignedCursor<'a> {
         }
     }
 
+    /// Leaves out the next n numbers, or all where fewer are left. A run costs one step, however many it has; each item of a literal run is read.
     pub fn skip(&mut self, n: u64)
         ensures { self.new ≡ drop n self.old }
     {
@@ -101,6 +105,7 @@ impl<'a> UnsignedCursor<'a> {
         }
     }
 
+    /// The next number, which may be null; nothing at the end.
     #[inline(always)]
     pub fn next(&mut self) -> Option<Option<u64>>
         ensures end { IfNone result ((self.old ≡ []) × (self.new ≡ [])) }
@@ -109,6 +114,11 @@ impl<'a> UnsignedCursor<'a> {
         if self.more > 0 {
             self.more -= 1;
             return Some(self.value);
+        }
+        self.runs.enter();
+        match self.runs.literal_number() {
+            Some(n) => return Some(Some(n)),
+            None => {}
         }
         match self.runs.next_alike() {
             None => None,

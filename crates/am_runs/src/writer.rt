@@ -34,6 +34,7 @@ impl<K: Item> Model for RunWriter<K> {
 }
 
 impl<K: Item> RunWriter<K> {
+    /// A writer of no entries, which takes its memory from `alloc`.
     pub fn new(alloc: Global) -> Self
         ensures { result ≡ Some [] }
     {
@@ -51,6 +52,7 @@ impl<K: Item> RunWriter<K> {
         }
     }
 
+    /// Appends an entry: an item, by its spelling, or null. An error says that memory was wanted; the writer is of no use then.
     pub fn push(&mut self, entry: Option<&[u8]>) -> Result<(), AllocError>
         requires room { IfSome self.old (λ list. length list < 2 ^ 32) }
         requires item { IfSome (option_copied entry) (IsItem K.end_of) }
@@ -68,6 +70,7 @@ impl<K: Item> RunWriter<K> {
         Ok(())
     }
 
+    /// The canonical spelling of what was pushed, which is no bytes for nulls alone. An error says that memory was wanted, now or before.
     pub fn finish(self) -> Result<Bytes, AllocError>
         ensures failed { IfNone self (IsErr result) }
         ensures ok { IfOk result (λ bytes. IfSome self (Canon K.end_of bytes)) }

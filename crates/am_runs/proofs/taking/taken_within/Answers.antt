@@ -1,4 +1,4 @@
-use Rattle.std.proofs.Common.{arith, ◌≤◌}
+use Rattle.std.proofs.Common.{arith}
 use Rattle.std.proofs.lemmas.Grind.{common_steps}
 use Rattle.am_runs.proofs.Taken.{take_one, take_repeat, take_nulls}
 use Rattle.am_runs.proofs.taking.taken_within.Goals as goal

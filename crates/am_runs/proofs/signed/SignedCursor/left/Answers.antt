@@ -1,4 +1,4 @@
-use Rattle.std.proofs.Common.{arith, rules, ap, length}
+use Rattle.std.proofs.Common.{arith, ap, length}
 use Rattle.std.specs.Option.{option_map}
 use Rattle.am_leb.specs.Leb.{signed_value}
 use Rattle.am_runs.proofs.Taken.{length-held}

@@ -1,4 +1,4 @@
-use Rattle.std.proofs.Common.{arith, ap, sym, ◌∙◌, drop}
+use Rattle.std.proofs.Common.{arith, ap, ◌∙◌, drop}
 use Rattle.std.specs.Option.{option_map}
 use Rattle.am_leb.specs.Leb.{signed_value}
 use Rattle.am_runs.specs.Typed.{signed_numbers}

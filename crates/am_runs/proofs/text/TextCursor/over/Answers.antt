@@ -7,7 +7,7 @@ use Rattle.am_runs.proofs.Spelled.{joins_texts}
 use Rattle.am_runs.proofs.text.TextCursor.over.Goals as goal
 
 pub invariant_of-result : goal.invariant_of-result
-invariant_of-result c = JoinsRuns-items _ _ _ c.in-Ok.ensures.ok.0
+invariant_of-result c = (JoinsRuns-items _ _ _ c.in-Ok.ensures.ok.0, omega (arith, c.in-Ok.ensures.ok.1))
 
 pub returns-in-Ok-clause-ok : goal.returns-in-Ok-clause-ok
 returns-in-Ok-clause-ok c = (joins_texts _ _ (λ i. omega (arith, c.type_inv.bytes i)) c.in-Ok.ensures.ok.0, omega (arith, c.in-Ok.ensures.ok.1, length-map c.in-Ok.runs (option_map text_of)))
