@@ -1,7 +1,7 @@
 -- A counter at all heads, and the document of its changes.
-use Rattle.std.proofs.Common.{ℕ, ℤ, ◌≡◌, List, [], ◌∷◌, refl, Some, None, pos, map}
-use Rattle.am_types.specs.Records.{OpId, Hash}
-use Rattle.am_types.specs.Numbers.{unsigned_of, signed_of}
+use Rattle.std.proofs.Common.{ℤ, ◌≡◌, List, [], ◌∷◌, refl, Some, None, pos, map}
+use Rattle.am_types.specs.Records.{Hash}
+use Rattle.am_types.specs.Numbers.{signed_of}
 use Rattle.am_types.specs.Values.{number_of}
 use Rattle.am_types.specs.Operations.{all_operations}
 use Rattle.am_types.specs.Members.{Member, changes, hashes, heads}

@@ -11,7 +11,7 @@ use Rattle.am_types.specs.Order.{hash_cmp, same}
 use Rattle.am_types.specs.Members.{Member, hashes, holds, holds_deps}
 use Rattle.am_types.specs.Verdicts.{verdict}
 use Rattle.am_types.specs.ValidSets.{Joins, JoinInTurn}
-use Rattle.am_types.specs.Deliver.{MayCome, Sets, ready, without, admit_by, admit, step, steps, settle}
+use Rattle.am_types.specs.Deliver.{Waits, Sets, ready, without, admit_by, admit, step, steps, settle}
 use Rattle.std.proofs.lemmas.Cmp.{eq_by_cmp_equiv}
 use Rattle.am_types.proofs.Orders.{hash_total}
 use Rattle.am_types.proofs.Sorting.{IsPermutation-sorted_by}
@@ -42,11 +42,6 @@ ready_is C W =
     let p = λ (m : Member). holds_deps C m.change in
     All-permutation (λ m. Contains W m × (holds_deps C m.change ≡ true)) (filter p W) (ready C W) (IsPermutation-sorted_by by_hash _)
     (λ k d l. (All-filter p (Contains W) W (All-contains_itself W) k d l, filter_passes p W k d l))
-
--- a waiting change is fine, and is held nowhere else
-pub record Waits (C : List Member) (m : Member) : Type 0 where
-  pub may_come : MayCome m
-  pub fresh : holds C m.hash ≡ false
 
 pub record Sound (s : Sets) : Type 0 where
   pub listed : JoinInTurn [] s.closed

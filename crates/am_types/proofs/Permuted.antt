@@ -6,21 +6,17 @@ use Rattle.std.specs.List.{Contains}
 use Rattle.std.proofs.lemmas.Cmp.{on_total}
 use Rattle.std.proofs.lemmas.List.Elements.{All-contains_itself}
 use Rattle.am_types.specs.Records.{ObjId}
-use Rattle.am_types.specs.Operations.{Operation, operation_cmp, ascending}
+use Rattle.am_types.specs.Operations.{Operation, DistinctIds, operation_cmp, ascending}
 use Rattle.am_types.specs.Places.{place_cmp}
 use Rattle.am_types.specs.Replay.{replay, apply}
 use Rattle.am_types.specs.Elements.{elements}
 use Rattle.am_types.specs.Replay.{entry_place}
 use Rattle.am_types.specs.Order.{sorted_by, among, id_cmp}
 use Rattle.am_types.specs.Actions as actions
-use Rattle.am_types.specs.Rows.{rows, row_of, kept}
+use Rattle.am_types.specs.Rows.{rows, row_of}
 use Rattle.am_types.specs.Rows.{operation_place}
 use Rattle.am_types.proofs.Orders.{id_total, id_exact}
 use Rattle.am_types.proofs.Sorting.{sorted_by-permutation}
-
--- no two operations have one id
-abbrev pub DistinctIds : List Operation → Type 0
-DistinctIds A = (x y : Operation) → Contains A x → Contains A y → x.id ≡ y.id → x ≡ y
 
 pub operation_total : IsTotalOrder operation_cmp
 operation_total = on_total (λ x. x.id) id_total

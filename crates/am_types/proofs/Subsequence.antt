@@ -1,27 +1,16 @@
 -- The elements after some operations are those after all, without the elements that aren't there.
 use Rattle.std.proofs.Common.{◌≡◌, List, [], ◌∷◌, filter, fold, Bool, true, false, refl, sym, ap, ◌∙◌, inl, inr}
-use Rattle.std.specs.Bool.{⊤}
 use Rattle.std.specs.List.{AllByRecursion}
 use Rattle.std.proofs.lemmas.Bool.{cases_Bool}
 use Rattle.am_types.specs.Records.{OpId, ObjId, Key, Name, Head, Elem}
 use Rattle.am_types.specs.Same.{same_id}
 use Rattle.am_types.specs.Operations.{Operation, ascending}
-use Rattle.am_types.specs.Elements.{put_after, put_at, elements, inserts_into}
+use Rattle.am_types.specs.Elements.{HasReference, IsAnchored, put_after, put_at, elements, inserts_into}
 use Rattle.am_types.proofs.Orders.{same_id-true}
 use Rattle.am_types.proofs.Rising.{filter-sorted_by}
 use Rattle.am_types.proofs.Permuted.{operation_total}
 
 module _ (q : OpId → Bool) where
-  -- the reference is there
-  abbrev pub HasReference : Key → Type 0
-  HasReference Head = ⊤
-  HasReference (Elem r) = q r ≡ true
-  HasReference (Name n) = ⊤
-
-  -- what is there has its reference there
-  abbrev pub IsAnchored : Operation → Type 0
-  IsAnchored x = q x.id ≡ true → HasReference x.op.key
-
   filter-put_after : (r e : OpId) (fs : List OpId) → q r ≡ true → q e ≡ true → filter q (put_after r e fs) ≡ put_after r e (filter q fs)
   filter-put_after r e [] qr qe = refl
   filter-put_after r e (f ∷ fs) qr qe =
@@ -31,7 +20,7 @@ module _ (q : OpId → Bool) where
         | inr s ↦ elim (cases_Bool (q f)) [ inl qf ↦ simp (s, qf, again, s) refl | inr qf ↦ simp (s, qf, again) refl ]
       ]
 
-  filter-put_at : (k : Key) (e : OpId) (fs : List OpId) → HasReference k → q e ≡ true → filter q (put_at k e fs) ≡ put_at k e (filter q fs)
+  filter-put_at : (k : Key) (e : OpId) (fs : List OpId) → HasReference q k → q e ≡ true → filter q (put_at k e fs) ≡ put_at k e (filter q fs)
   filter-put_at Head e fs has qe = simp qe refl
   filter-put_at (Elem r) e fs has qe = filter-put_after r e fs has qe
   filter-put_at (Name n) e fs has qe = refl
@@ -53,7 +42,7 @@ module _ (q : OpId → Bool) where
   abbrev put : List OpId → Operation → List OpId
   put fs x = put_at x.op.key x.id fs
 
-  filter-fold : (xs : List Operation) (fs : List OpId) → AllByRecursion IsAnchored xs → fold put (filter q fs) (filter (λ x. q x.id) xs) ≡ filter q (fold put fs xs)
+  filter-fold : (xs : List Operation) (fs : List OpId) → AllByRecursion (IsAnchored q) xs → fold put (filter q fs) (filter (λ x. q x.id) xs) ≡ filter q (fold put fs xs)
   filter-fold [] fs all = refl
   filter-fold (x ∷ xs) fs all =
       let again = filter-fold xs (put_at x.op.key x.id fs) all.1 in

@@ -90,6 +90,10 @@ at_second : letters_at (h_t2 ∷ []) ≡ id 2 aa ∷ id 4 bb ∷ id 3 aa ∷ []
 unfolding elements ancestors
 at_second = refl
 
+at_third : letters_at (h_t3 ∷ []) ≡ id 2 aa ∷ id 4 cc ∷ id 3 aa ∷ []
+unfolding elements ancestors
+at_third = refl
+
 at_first_and_second : letters_at (h_t1 ∷ h_t2 ∷ []) ≡ id 2 aa ∷ id 4 bb ∷ id 3 aa ∷ []
 unfolding elements ancestors
 at_first_and_second = refl

@@ -5,15 +5,7 @@ use Rattle.std.specs.Bool.{then_some}
 use Rattle.am_types.specs.Records.{Change, Verdict, Fits, SeqClash, SeqGap, StartLow, BadReference, Full}
 use Rattle.am_types.specs.Members.{Member}
 use Rattle.am_types.specs.Ancestors.{ancestors}
-use Rattle.am_types.specs.Verdicts.{verdict, seq_clash, seq_gap, start_low, bad_reference, full}
-
--- no reason applies
-pub record FitsBy (C : List Member) (c : Change) : Type 0 where
-  pub clash : seq_clash C c ≡ None
-  pub gap : seq_gap (ancestors C c.deps) c ≡ None
-  pub low : start_low (ancestors C c.deps) c ≡ None
-  pub references : bad_reference (ancestors C c.deps) c ≡ None
-  pub limits : full C c ≡ None
+use Rattle.am_types.specs.Verdicts.{NoReasonApplies, verdict, seq_clash, seq_gap, start_low, bad_reference, full}
 
 -- a reason is not Fits
 abbrev NotFits : Option Verdict → Type 0
@@ -31,7 +23,7 @@ gap_not_fits : (b : Bool) → NotFits (then_some b SeqGap)
 gap_not_fits true v e = λ g. cc
 gap_not_fits false v e = λ g. cc
 
-pub fits_by : (C : List Member) (c : Change) → verdict C c ≡ Fits → FitsBy C c
+pub fits_by : (C : List Member) (c : Change) → verdict C c ≡ Fits → NoReasonApplies C c
 unfolding verdict
 fits_by C c e =
     let A = ancestors C c.deps in
@@ -42,6 +34,6 @@ fits_by C c e =
     let five = rest_fits (full C c) None (mapped_not_fits Full (λ l. λ g. cc) _) four.1 in
     record { clash = one.0; gap = two.0; low = three.0; references = four.0; limits = five.0 }
 
-pub fits_from : (C : List Member) (c : Change) → FitsBy C c → verdict C c ≡ Fits
+pub fits_from : (C : List Member) (c : Change) → NoReasonApplies C c → verdict C c ≡ Fits
 unfolding verdict
 fits_from C c h = rw (h.clash, h.gap, h.low, h.references, h.limits) refl

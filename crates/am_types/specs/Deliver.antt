@@ -6,14 +6,14 @@
 --     StandFor C W Ls      C and W, as sets, are what the deliveries Ls leave of two empty sets
 --     AreStored C W        C is valid, and W are fine changes that wait for others
 --     Alike s t            the same two sets, however they are listed, and the same reports
-use Rattle.std.specs.Prelude.{ℕ, ◌≡◌, zero, suc, not, List, [], ◌∷◌, ◌++◌, length, All, filter, Option, Some, None, IsPermutation, if◌then◌else◌}
+use Rattle.std.specs.Prelude.{ℕ, ◌≡◌, zero, suc, false, not, List, [], ◌∷◌, ◌++◌, length, All, filter, Option, Some, None, IsPermutation, if◌then◌else◌}
 use Rattle.std.specs.Ordering.{on}
 use Rattle.am_types.specs.declared.verdict.Why.TheVariants as reasons
 use Rattle.am_types.specs.Bytes.{IsHash}
 use Rattle.am_types.specs.Records.{Hash, Verdict, Fits, SeqClash, SeqGap, StartLow, BadReference, Full, Why, Rejected}
 use Rattle.am_types.specs.Order.{hash_cmp, same, sorted_by}
 use Rattle.am_types.specs.Same.{same_change}
-use Rattle.am_types.specs.Members.{Member, member, holds_deps, DistinctHashes}
+use Rattle.am_types.specs.Members.{Member, holds, member, holds_deps, DistinctHashes}
 use Rattle.am_types.specs.Fine.{Fine}
 use Rattle.am_types.specs.Verdicts.{verdict}
 use Rattle.am_types.specs.ValidSets.{Valid}
@@ -115,6 +115,11 @@ after Ls = after_all no_sets Ls
 pub record MayCome (m : Member) : Type 0 where
   pub hash : IsHash m.hash
   pub fine : Fine m.change
+
+-- m waits beside C: it may come, and its hash isn't held
+pub record Waits (C : List Member) (m : Member) : Type 0 where
+  pub may_come : MayCome m
+  pub fresh : holds C m.hash ≡ false
 
 pub record AreStored (C W : List Member) : Type 0 where
   pub valid : Valid C

@@ -2,9 +2,11 @@
 -- known as RGA.)
 --     insertions A o     the insertions into the object o, in ascending id
 --     elements A o       the elements of o in order: each insertion in turn directly after its reference, or first
+--     part q A           the operations of A whose ids the test q passes
+--     RespectsReferences q A     with an operation of A, q passes its reference
 -- An insertion whose reference isn't there, or whose key is a name, puts nothing in: in a valid set there is none, since
 -- the reference of each is known and has a lesser id. So a statement about `put_after` wants "the reference is there".
-use Rattle.std.specs.Prelude.{Bool, ◌&&◌, List, [], ◌∷◌, filter, fold, if◌then◌else◌}
+use Rattle.std.specs.Prelude.{Bool, true, ◌≡◌, ◌&&◌, Contains, ⊤, List, [], ◌∷◌, filter, fold, if◌then◌else◌}
 use Rattle.am_types.specs.Records.{OpId, ObjId, Key, Name, Head, Elem}
 use Rattle.am_types.specs.Same.{same_id, same_object}
 use Rattle.am_types.specs.Operations.{Operation, ascending}
@@ -28,3 +30,22 @@ put_at (Name n) e fs = fs
 
 unfoldable pub elements : List Operation → ObjId → List OpId
 elements A o = fold (λ fs x. put_at x.op.key x.id fs) [] (insertions A o)
+
+-- ---- parts
+
+-- the operations whose ids the test q passes
+abbrev pub part : (OpId → Bool) → List Operation → List Operation
+part q A = filter (λ x. q x.id) A
+
+-- the reference of such a key passes q
+abbrev pub HasReference : (OpId → Bool) → Key → Type 0
+HasReference q Head = ⊤
+HasReference q (Elem r) = q r ≡ true
+HasReference q (Name n) = ⊤
+
+-- what passes q has a reference that passes q
+abbrev pub IsAnchored : (OpId → Bool) → Operation → Type 0
+IsAnchored q x = q x.id ≡ true → HasReference q x.op.key
+
+abbrev pub RespectsReferences : (OpId → Bool) → List Operation → Type 0
+RespectsReferences q A = (x : Operation) → Contains A x → IsAnchored q x

@@ -19,5 +19,7 @@ pub mod Elements
 pub mod Places
 pub mod Replay
 pub mod Rows
+pub mod Clocks
 pub mod Canonical
 pub mod Documents
+pub mod Laws

@@ -4,9 +4,10 @@
 --     all_operations cs      the operations of each of the changes
 --     operation_cmp          the order of operations: by their ids
 --     ascending A            the operations A in ascending id
+--     DistinctIds A          no two operations of A have one id
 --     max c                  the counter of the last operation of c
 --     slot x                 what x gives a value to: of an insertion the element that it makes, else its key
-use Rattle.std.specs.Prelude.{ℕ, ◌+◌, ◌-◌, List, [], ◌∷◌, length, flat_map, if◌then◌else◌}
+use Rattle.std.specs.Prelude.{ℕ, ◌≡◌, ◌+◌, ◌-◌, Contains, List, [], ◌∷◌, length, flat_map, if◌then◌else◌}
 use Rattle.std.specs.Ordering.{on}
 use Rattle.std.specs.declared.cmp.Ordering.{Ordering}
 use Rattle.am_types.specs.Records.{OpId, Key, Elem, Op, Change}
@@ -33,6 +34,9 @@ operation_cmp = on (λ x. x.id) id_cmp
 
 abbrev pub ascending : List Operation → List Operation
 ascending A = sorted_by operation_cmp A
+
+abbrev pub DistinctIds : List Operation → Type 0
+DistinctIds A = (x y : Operation) → Contains A x → Contains A y → x.id ≡ y.id → x ≡ y
 
 abbrev pub max : Change → ℕ
 max c = c.start + length c.ops - 1

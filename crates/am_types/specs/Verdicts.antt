@@ -1,5 +1,6 @@
 -- Whether a change fits a set.
---     verdict C c     the first reason why c doesn't fit C, or Fits
+--     verdict C c             the first reason why c doesn't fit C, or Fits
+--     NoReasonApplies C c     none of the reasons applies
 -- C is meant to be valid and to hold the dependencies of c but not c itself. The order of the reasons and the limits are
 -- choices of amstore's profile. The reasons, each with its answer where it applies; A are the ancestors of c in C:
 --     seq_clash C c         a member of C has the actor and the seq of c
@@ -7,7 +8,7 @@
 --     start_low A c         a dependency has an operation whose counter isn't below the start of c
 --     bad_reference A c     an operation of c names what isn't there
 --     full C c              with c, the set would pass a limit
-use Rattle.std.specs.Prelude.{ℕ, ◌-◌, ◌^◌, Bool, not, ◌&&◌, ◌==◌, nat_le, nat_lt, List, [], ◌∷◌, length, find, sum_by, Option, None, option_map, unwrap_or}
+use Rattle.std.specs.Prelude.{ℕ, ◌≡◌, ◌-◌, ◌^◌, Bool, not, ◌&&◌, ◌==◌, nat_le, nat_lt, List, [], ◌∷◌, length, find, sum_by, Option, None, option_map, unwrap_or}
 use Rattle.std.specs.Option.{option_or}
 use Rattle.std.specs.Bool.{then_some}
 use Rattle.std.specs.List.{list_any}
@@ -62,3 +63,11 @@ unfoldable pub verdict : List Member → Change → Verdict
 verdict C c =
     let A : List Member = ancestors C c.deps in
     unwrap_or (first_some (seq_clash C c ∷ seq_gap A c ∷ start_low A c ∷ bad_reference A c ∷ full C c ∷ [])) Fits
+
+-- no reason applies
+pub record NoReasonApplies (C : List Member) (c : Change) : Type 0 where
+  pub clash : seq_clash C c ≡ None
+  pub gap : seq_gap (ancestors C c.deps) c ≡ None
+  pub low : start_low (ancestors C c.deps) c ≡ None
+  pub references : bad_reference (ancestors C c.deps) c ≡ None
+  pub limits : full C c ≡ None

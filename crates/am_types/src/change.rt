@@ -8,7 +8,7 @@ use crate::text::Text;
 use crate::value::RawValue;
 
 /// An operation of a change. Its id follows from its place there. (Automerge Binary Document Format, "operations".)
-#[derive(Debug, Drop)]
+#[derive(Debug, PartialEq, Eq, Drop)]
 pub struct Op {
     /// The object in which it stands.
     pub obj: ObjId,
@@ -28,7 +28,7 @@ pub struct Op {
 }
 
 /// A batch of operations that one actor made at once. (Automerge Binary Document Format, "change chunks".)
-#[derive(Debug, Drop)]
+#[derive(Debug, PartialEq, Eq, Drop)]
 pub struct Change {
     /// The hashes of the changes that the author had seen, without those that others of them name.
     pub deps: List<Hash>,

@@ -9,7 +9,7 @@ use crate::value::RawValue;
 
 /// An operation row of a document: an operation that is no deletion, with the operations that name it as a
 /// predecessor. (Automerge Binary Document Format, "document chunks".)
-#[derive(Debug, Drop)]
+#[derive(Debug, PartialEq, Eq, Drop)]
 pub struct Row {
     pub obj: ObjId,
     pub key: Key,
@@ -23,7 +23,7 @@ pub struct Row {
 }
 
 /// A change row of a document: a change without its operations, with the places of its dependencies among the rows.
-#[derive(Debug, Drop)]
+#[derive(Debug, PartialEq, Eq, Drop)]
 pub struct Meta {
     pub actor: ActorId,
     pub seq: u64,
@@ -37,7 +37,7 @@ pub struct Meta {
 }
 
 /// All that the contents of a document say. The suffix has the place of each head among the change rows.
-#[derive(Debug, Drop)]
+#[derive(Debug, PartialEq, Eq, Drop)]
 pub struct Table {
     pub actors: List<ActorId>,
     pub heads: List<Hash>,
@@ -47,7 +47,7 @@ pub struct Table {
 }
 
 /// A visible value. The total of a counter is its value with all that was added to it, and 0 for any other value.
-#[derive(Debug, Drop)]
+#[derive(Debug, PartialEq, Eq, Drop)]
 pub struct Entry {
     pub obj: ObjId,
     pub slot: Key,
@@ -58,7 +58,7 @@ pub struct Entry {
 }
 
 /// The visible values of some changes, in document order.
-#[derive(Debug, Drop)]
+#[derive(Debug, PartialEq, Eq, Drop)]
 pub struct Document {
     pub entries: List<Entry>,
 }

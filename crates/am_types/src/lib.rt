@@ -8,8 +8,11 @@ mod document;
 mod hash;
 mod ids;
 mod known;
+mod laws;
 mod list;
 mod refs;
+#[cfg(test)]
+mod tests;
 mod text;
 mod twin;
 mod value;
@@ -22,6 +25,11 @@ pub use document::{Document, Entry, Meta, Row, Table};
 pub use hash::Hash;
 pub use ids::{Key, ObjId, OpId};
 pub use known::{hash_known, hashes_known, slice_known, str_known};
+pub use laws::{
+    ancestors_are_least, ancestors_are_read, ancestors_stay, depth_counts, elements_of_part,
+    fits_exactly, ids_are_distinct, listing_is_free, numbers_are_shortest, orders_are_strict,
+    same_is_equal, settles_in_turn, settling_keeps_order, sorting_is_free,
+};
 pub use list::List;
 pub use refs::{EntryRef, IdRef, KeyRef, ObjRef, ValueRef, compare_ids};
 pub use text::Text;

@@ -61,3 +61,22 @@ impl<T> From<Vec<T>> for List<T> {
         List { items }
     }
 }
+
+impl<T: PartialEq> PartialEq for List<T> {
+    ghost use lib.Pointwise.{pointwise};
+    ghost use Rattle.std.specs.Cmp.Lexicographic.{lists_per};
+
+    ghost eq = { λ x y. pointwise T.eq x y };
+
+    ghost laws = { lists_per T.laws };
+
+    fn eq(&self, other: &Self) -> bool {
+        self.as_slice() == other.as_slice()
+    }
+}
+
+impl<T: Eq> Eq for List<T> {
+    ghost use Rattle.std.specs.Cmp.Lexicographic.{lists_equiv};
+
+    ghost laws = { lists_equiv T.Eq.laws };
+}

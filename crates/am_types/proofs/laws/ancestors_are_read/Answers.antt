@@ -1,0 +1,5 @@
+use Rattle.am_types.proofs.Proved as proved
+use Rattle.am_types.proofs.laws.ancestors_are_read.Goals as goal
+
+pub returns : goal.returns
+returns c = proved.ancestors_are_read

@@ -1,0 +1,124 @@
+-- Laws over the definitions. Each is the contract of a function of the same name, which does nothing.
+use Rattle.std.specs.Prelude.{ℕ, ℤ, ◌+◌, ◌<◌, ◌^◌, ◌≡◌, ◌↔◌, false, List, [], ◌++◌, filter, map, Some, All, Contains, IsTrue, IsSorted, IsPermutation, FitsSigned, Bool}
+use Rattle.std.specs.Int.{w64}
+use Rattle.std.specs.Cmp.{IsTotalOrder}
+use Rattle.std.specs.declared.cmp.Ordering.{Ordering}
+use Rattle.std.specs.declared.cmp.Ordering.TheVariants.{Equal}
+use Rattle.am_leb.specs.Leb.{IsUleb, IsLeb}
+use Rattle.am_types.specs.Bytes.{IsBytes}
+use Rattle.am_types.specs.Records.{OpId, Hash, ObjId, Change, Fits}
+use Rattle.am_types.specs.Order.{id_cmp, hash_cmp, sorted_by}
+use Rattle.am_types.specs.Numbers.{unsigned_of, signed_of}
+use Rattle.am_types.specs.Same.{same_change}
+use Rattle.am_types.specs.Operations.{Operation, all_operations, ascending, DistinctIds}
+use Rattle.am_types.specs.Members.{Member, changes, holds, heads}
+use Rattle.am_types.specs.Ancestors.{ancestors, IsLeastPart}
+use Rattle.am_types.specs.Verdicts.{verdict, NoReasonApplies}
+use Rattle.am_types.specs.ValidSets.{Valid, JoinInTurn}
+use Rattle.am_types.specs.Deliver.{Sets, settle, IsSettled, TakesOne, Waits}
+use Rattle.am_types.specs.Elements.{elements, part, RespectsReferences}
+use Rattle.am_types.specs.Replay.{replay}
+use Rattle.am_types.specs.Rows.{rows}
+use Rattle.am_types.specs.Clocks.{covers}
+use Rattle.am_types.specs.Canonical.{largest, dependencies, depth, order}
+use Rattle.am_types.specs.Documents.{table}
+
+-- ---- orders
+
+-- a total order that ties only equal values
+pub record IsStrict {X : Type 0} (cmp : X → X → Ordering) : Type 0 where
+  pub total : IsTotalOrder cmp
+  pub ties : (a b : X) → cmp a b ≡ Equal → a ≡ b
+
+-- ids are totally ordered, and so are hashes
+abbrev pub OrdersAreStrict : Type 0
+OrdersAreStrict = IsStrict id_cmp × IsStrict hash_cmp
+
+-- sorting by cmp gives the same elements, in order, and doesn't depend on how they were listed
+pub record SortsOnce {X : Type 0} (cmp : X → X → Ordering) : Type 0 where
+  pub same : (xs : List X) → IsPermutation xs (sorted_by cmp xs)
+  pub in_order : (xs : List X) → IsSorted cmp (sorted_by cmp xs)
+  pub once : (xs ys : List X) → IsPermutation xs ys → sorted_by cmp ys ≡ sorted_by cmp xs
+
+-- sorting ids, hashes, and operations of which no two have one id
+abbrev pub SortingIsFree : Type 0
+SortingIsFree =
+    SortsOnce id_cmp × SortsOnce hash_cmp
+    × ((A B : List Operation) → DistinctIds A → IsPermutation A B → ascending B ≡ ascending A)
+
+-- ---- values and changes
+
+-- the bytes spell the number, and no shorter list does
+abbrev pub NumbersAreShortest : Type 0
+NumbersAreShortest =
+    ((bytes : List ℕ) (n : ℕ) → IsBytes bytes → (unsigned_of bytes ≡ Some n) ↔ ((n < 2 ^ 64) × IsUleb bytes n))
+    × ((bytes : List ℕ) (n : ℤ) → IsBytes bytes → (signed_of bytes ≡ Some n) ↔ (FitsSigned w64 n × IsLeb bytes n))
+
+-- comparing two changes part by part is equality
+abbrev pub SameIsEqual : Type 0
+SameIsEqual = (a b : Change) → IsTrue (same_change a b) ↔ (a ≡ b)
+
+-- ---- sets
+
+-- the ancestors are the least part with the named members and the dependencies of its own
+abbrev pub AncestorsAreLeast : Type 0
+AncestorsAreLeast = (C : List Member) (hs : List Hash) → IsLeastPart C hs (ancestors C hs)
+
+-- a change fits exactly where no reason against it applies
+abbrev pub FitsExactly : Type 0
+FitsExactly = (C : List Member) (c : Change) → (verdict C c ≡ Fits) ↔ NoReasonApplies C c
+
+-- in a valid set no two operations have one id
+abbrev pub IdsAreDistinct : Type 0
+IdsAreDistinct = (C : List Member) → Valid C → DistinctIds (all_operations (changes C))
+
+-- ---- settling
+
+-- settling admits the first ready change and goes on, leaves settled sets as they are, and leaves nothing ready
+pub record SettlesInTurn : Type 0 where
+  pub goes_on : (s t : Sets) → TakesOne s t → settle s ≡ settle t
+  pub stays : (s : Sets) → IsSettled s → settle s ≡ s
+  pub ends : (s : Sets) → IsSettled (settle s)
+
+-- settling keeps that each closed change joins those before it
+abbrev pub SettlingKeepsOrder : Type 0
+SettlingKeepsOrder = (s : Sets) → JoinInTurn [] s.closed → All (Waits s.closed) s.waiting → JoinInTurn [] (settle s).closed
+
+-- ---- what is read off a set
+
+-- two listings give the same
+pub record ReadsAlike (C D : List Member) : Type 0 where
+  pub elements : (o : ObjId) → elements (all_operations (changes D)) o ≡ elements (all_operations (changes C)) o
+  pub replay : replay (all_operations (changes D)) ≡ replay (all_operations (changes C))
+  pub rows : rows (all_operations (changes D)) ≡ rows (all_operations (changes C))
+  pub heads : heads D ≡ heads C
+  pub order : order D ≡ order C
+  pub table : table D ≡ table C
+
+-- what is read off a valid set doesn't depend on how it is listed
+abbrev pub ListingIsFree : Type 0
+ListingIsFree = (C D : List Member) → Valid C → IsPermutation C D → ReadsAlike C D
+
+-- the depth of a member is 0 where it has no dependency, else one more than the greatest depth of a dependency
+abbrev pub DepthCounts : Type 0
+DepthCounts = (C : List Member) → Valid C → (m : Member) → Contains C m
+    → depth C m.change ≡ largest (map (λ d. depth C d.change + 1) (dependencies C m.change))
+
+-- the elements of a part that respects references are those of the whole without the others
+abbrev pub ElementsOfPart : Type 0
+ElementsOfPart = (q : OpId → Bool) (A : List Operation) → RespectsReferences q A → (o : ObjId) → elements (part q A) o ≡ filter q (elements A o)
+
+-- the operations of some ancestors in a valid set are those that their clock covers, and their elements are those of the
+-- whole without the others
+pub record ReadsOfAncestors (C : List Member) (hs : List Hash) : Type 0 where
+  pub operations : all_operations (changes (ancestors C hs)) ≡ part (covers (ancestors C hs)) (all_operations (changes C))
+  pub respects : RespectsReferences (covers (ancestors C hs)) (all_operations (changes C))
+  pub elements : (o : ObjId) → elements (all_operations (changes (ancestors C hs))) o ≡ filter (covers (ancestors C hs)) (elements (all_operations (changes C)) o)
+
+abbrev pub AncestorsAreRead : Type 0
+AncestorsAreRead = (C : List Member) → Valid C → (hs : List Hash) → ReadsOfAncestors C hs
+
+-- the ancestors of members of a valid set, and so what is read at them, stay the same when other members come
+abbrev pub AncestorsStay : Type 0
+AncestorsStay = (C E : List Member) (hs : List Hash) → Valid C → All (λ h. IsTrue (holds C h)) hs → All (λ m. holds C m.hash ≡ false) E
+    → ancestors (C ++ E) hs ≡ ancestors C hs

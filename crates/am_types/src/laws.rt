@@ -1,0 +1,83 @@
+//! Laws over the definitions. Each function does nothing; its contract is the law.
+ghost use Rattle.am_types.specs.Laws.{OrdersAreStrict, SortingIsFree, NumbersAreShortest, SameIsEqual, AncestorsAreLeast, FitsExactly, IdsAreDistinct, SettlesInTurn, SettlingKeepsOrder, ListingIsFree, DepthCounts, ElementsOfPart, AncestorsAreRead, AncestorsStay};
+
+/// Ids are totally ordered, hashes too, and only equal ones tie.
+#[tactic(auto, using(crate::proofs::Proved::orders_are_strict))]
+pub fn orders_are_strict()
+    ensures { OrdersAreStrict }
+{}
+
+/// Sorting ids, hashes or operations gives the same elements in order, however they were listed.
+#[tactic(auto, using(crate::proofs::Proved::sorting_is_free))]
+pub fn sorting_is_free()
+    ensures { SortingIsFree }
+{}
+
+/// The number that fills some bytes is the one of which they are the shortest spelling, within 64 bits.
+#[tactic(auto, using(crate::proofs::Proved::numbers_are_shortest))]
+pub fn numbers_are_shortest()
+    ensures { NumbersAreShortest }
+{}
+
+/// Comparing two changes part by part is equality.
+#[tactic(auto, using(crate::proofs::Proved::same_is_equal))]
+pub fn same_is_equal()
+    ensures { SameIsEqual }
+{}
+
+/// The ancestors of some members are the least part of the set that has these and with each the members that it depends
+/// on.
+pub fn ancestors_are_least()
+    ensures { AncestorsAreLeast }
+{}
+
+/// A change fits a set exactly where none of the five reasons applies.
+#[tactic(auto, using(crate::proofs::Proved::fits_exactly))]
+pub fn fits_exactly()
+    ensures { FitsExactly }
+{}
+
+/// In a valid set no two operations have one id.
+pub fn ids_are_distinct()
+    ensures { IdsAreDistinct }
+{}
+
+/// Settling admits the ready changes one by one, ends, and leaves none ready.
+#[tactic(auto, using(crate::proofs::Proved::settles_in_turn))]
+pub fn settles_in_turn()
+    ensures { SettlesInTurn }
+{}
+
+/// What settling leaves in the closed set joins one after the other, where it did before.
+#[tactic(auto, using(crate::proofs::Proved::settling_keeps_order))]
+pub fn settling_keeps_order()
+    ensures { SettlingKeepsOrder }
+{}
+
+/// Elements, entries, rows, heads, the canonical order and the table of a valid set don't depend on how it is listed.
+pub fn listing_is_free()
+    ensures { ListingIsFree }
+{}
+
+/// The depth of a change is 0 without dependencies, else one more than the greatest depth of a dependency.
+#[tactic(auto, using(crate::proofs::Proved::depth_counts))]
+pub fn depth_counts()
+    ensures { DepthCounts }
+{}
+
+/// The elements of a part that respects references are those of the whole without the others, in the same order.
+#[tactic(auto, using(crate::proofs::Proved::elements_of_part))]
+pub fn elements_of_part()
+    ensures { ElementsOfPart }
+{}
+
+/// The ancestors in a valid set are such a part, whose operations are those that its clock covers.
+pub fn ancestors_are_read()
+    ensures { AncestorsAreRead }
+{}
+
+/// The ancestors of members of a valid set stay the same when other members come.
+#[tactic(auto, using(crate::proofs::Proved::ancestors_stay_valid))]
+pub fn ancestors_stay()
+    ensures { AncestorsStay }
+{}

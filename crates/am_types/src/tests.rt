@@ -1,0 +1,192 @@
+//! Each call once: what is built, lent, compared and copied is what was put in.
+use crate::*;
+use std::alloc::{AllocError, Global};
+use std::cmp::Ordering;
+use std::test::Fail;
+
+fn text(alloc: Global, s: &str) -> Result<Text, AllocError> {
+    let mut out = Text::new(alloc);
+    out.push_str(s)?;
+    Ok(out)
+}
+
+fn bytes(alloc: Global, s: &[u8]) -> Result<Bytes, AllocError> {
+    let mut out = Bytes::new(alloc);
+    out.push_slice(s)?;
+    Ok(out)
+}
+
+fn id(alloc: Global, counter: u64, actor: &[u8]) -> Result<OpId, ActorFault> {
+    let actor = ActorId::of(alloc, actor)?;
+    Ok(OpId { counter, actor })
+}
+
+fn operation(alloc: Global) -> Result<Op, ActorFault> {
+    let obj = ObjId::Made(id(alloc, 1, &[0xaa])?);
+    let key = Key::Elem(id(alloc, 2, &[0xaa])?);
+    let raw = bytes(alloc, b"x")?;
+    let mut preds = List::new(alloc);
+    preds.push(id(alloc, 3, &[0xbb])?)?;
+    let mark = Some(text(alloc, "bold")?);
+    Ok(Op {
+        obj,
+        key,
+        insert: true,
+        action: 1,
+        value: RawValue { kind: 6, raw },
+        preds,
+        expand: false,
+        mark,
+    })
+}
+
+fn change(alloc: Global) -> Result<Change, ActorFault> {
+    let mut deps = List::new(alloc);
+    deps.push(Hash([7; 32]))?;
+    let actor = ActorId::of(alloc, &[0xaa])?;
+    let message = text(alloc, "first")?;
+    let mut ops = List::new(alloc);
+    ops.push(operation(alloc)?)?;
+    let extra = bytes(alloc, &[1, 2])?;
+    Ok(Change {
+        deps,
+        actor,
+        seq: 1,
+        start: 4,
+        time: -5,
+        message,
+        ops,
+        extra,
+    })
+}
+
+fn table(alloc: Global) -> Result<Table, ActorFault> {
+    let op = operation(alloc)?;
+    let row_id = id(alloc, 3, &[0xaa])?;
+    let mut rows = List::new(alloc);
+    rows.push(Row {
+        obj: op.obj,
+        key: op.key,
+        id: row_id,
+        insert: op.insert,
+        action: op.action,
+        value: op.value,
+        succs: op.preds,
+        expand: op.expand,
+        mark: op.mark,
+    })?;
+    let change = change(alloc)?;
+    let mut deps = List::new(alloc);
+    deps.push(0)?;
+    let mut metas = List::new(alloc);
+    metas.push(Meta {
+        actor: change.actor,
+        seq: change.seq,
+        max: 4,
+        time: change.time,
+        message: change.message,
+        deps,
+        extra: change.extra,
+    })?;
+    let mut actors = List::new(alloc);
+    actors.push(ActorId::of(alloc, &[0xaa])?)?;
+    let mut suffix = List::new(alloc);
+    suffix.push(0)?;
+    Ok(Table {
+        actors,
+        heads: change.deps,
+        metas,
+        rows,
+        suffix: Some(suffix),
+    })
+}
+
+fn document(alloc: Global) -> Result<Document, ActorFault> {
+    let obj = ObjId::Made(id(alloc, 1, &[0xaa])?);
+    let slot = Key::Elem(id(alloc, 2, &[0xaa])?);
+    let id = id(alloc, 3, &[0xaa])?;
+    let raw = bytes(alloc, &[10])?;
+    let mut entries = List::new(alloc);
+    entries.push(Entry {
+        obj,
+        slot,
+        id,
+        action: 1,
+        value: RawValue { kind: 8, raw },
+        total: 10,
+    })?;
+    Ok(Document { entries })
+}
+
+#[test]
+fn actors_have_1_to_1024_bytes(rt: HostRuntime) -> Result<(), Fail> {
+    let most = [0x11; 1025];
+    for (len, good) in [(0, false), (1, true), (1024, true), (1025, false)] {
+        match ActorId::of(rt.alloc(), &most[..len]) {
+            Ok(actor) => assert!(rt; good && actor.as_slice() == &most[..len], "at {len}"),
+            Err(fault) => assert!(rt; !good && fault == ActorFault::Length, "at {len}"),
+        }
+    }
+    Ok(())
+}
+
+#[test]
+fn ids_go_by_counter_then_actor(rt: HostRuntime) {
+    let table: [(u64, &[u8], u64, &[u8], Ordering); 4] = [
+        (1, b"b", 2, b"a", Ordering::Less),
+        (2, b"b", 2, b"a", Ordering::Greater),
+        (2, b"a", 2, b"ab", Ordering::Less),
+        (2, b"a", 2, b"a", Ordering::Equal),
+    ];
+    for (counter, actor, other_counter, other_actor, order) in table {
+        let a = IdRef { counter, actor };
+        let b = IdRef {
+            counter: other_counter,
+            actor: other_actor,
+        };
+        assert_eq!(rt; compare_ids(a, b), order);
+    }
+}
+
+#[test]
+fn copies_equal_what_they_copy(rt: HostRuntime) -> Result<(), Fail> {
+    let alloc = rt.alloc();
+    let change = change(alloc)?;
+    assert_eq!(rt; change.copy(alloc)?, change);
+    let table = table(alloc)?;
+    assert_eq!(rt; table.copy(alloc)?, table);
+    let document = document(alloc)?;
+    assert_eq!(rt; document.copy(alloc)?, document);
+    Ok(())
+}
+
+#[test]
+fn lends_what_it_has(rt: HostRuntime) -> Result<(), Fail> {
+    let document = document(rt.alloc())?;
+    let entry = document.entry(0);
+    match (entry.obj, entry.slot) {
+        (ObjRef::Made(obj), KeyRef::Elem(slot)) => {
+            assert_eq!(rt; obj.counter, 1);
+            assert_eq!(rt; obj.actor, b"\xaa".as_slice());
+            assert_eq!(rt; slot.counter, 2);
+        }
+        _ => assert!(rt; false, "another place"),
+    }
+    assert_eq!(rt; entry.id.counter, 3);
+    assert_eq!(rt; (entry.action, entry.value.kind, entry.total), (1, 8, 10));
+    assert_eq!(rt; entry.value.raw, b"\x0a".as_slice());
+    Ok(())
+}
+
+#[test]
+fn takes_over_what_is_owned(rt: HostRuntime) -> Result<(), Fail> {
+    let alloc = rt.alloc();
+    let numbers = List::from(vec![in alloc; 1u64, 2, 3]?);
+    assert_eq!(rt; numbers.len(), 3);
+    let three = Bytes::from(vec![in alloc; 1u8, 2, 3]?);
+    assert_eq!(rt; three, bytes(alloc, &[1, 2, 3])?);
+    let word = Text::from(format!(in alloc; "{}", "word")?);
+    assert_eq!(rt; word, text(alloc, "word")?);
+    assert_eq!(rt; (three.len(), word.len()), (3, 4));
+    Ok(())
+}
