@@ -1,4 +1,4 @@
-use Rattle.std.specs.Prelude.{◌≡◌, ℕ, List, [], ◌∷◌, map, Option, Some, None, Bool, true, false, ℤ, pos, neg_ℤ, ◌+ℤ◌, ◌-ℤ◌, ◌*ℤ◌, ◌≤ℤ◌, ◌<ℤ◌, ◌^◌, IfSome, FitsSigned}
+use Rattle.std.specs.Prelude.{◌≡◌, ◌⊎◌, ℕ, List, [], ◌∷◌, map, Option, Some, None, Bool, true, false, ℤ, pos, neg_ℤ, ◌+ℤ◌, ◌-ℤ◌, ◌*ℤ◌, ◌≤ℤ◌, ◌<ℤ◌, ◌^◌, IfSome, FitsSigned}
 use Rattle.std.specs.Int.{w64}
 use Rattle.std.specs.Option.{option_map}
 use Rattle.std.specs.List.{AllByRecursion}
@@ -21,6 +21,10 @@ sum_after sum (Some difference) k = sum +ℤ pos k *ℤ difference
 -- The bytes join runs of differences, and the values are their sums.
 abbrev pub JoinsDeltas : List ℕ → List (Option ℤ) → Type 0
 JoinsDeltas bytes values = (differences : List (Option ℤ)) × JoinsSigned bytes differences × (values ≡ sums_from (pos 0) differences)
+
+-- No bytes spell any number of nulls.
+abbrev pub SpellsDeltas : List ℕ → List (Option ℤ) → Type 0
+SpellsDeltas bytes values = ((bytes ≡ []) × AllByRecursion (λ value. value ≡ None) values) ⊎ JoinsDeltas bytes values
 
 abbrev pub AllBetween : ℤ → ℤ → List (Option ℤ) → Type 0
 AllBetween low high values = AllByRecursion (λ value. IfSome value (λ z. (low ≤ℤ z) × (z ≤ℤ high))) values

@@ -5,9 +5,13 @@ mod arithmetic;
 mod between;
 mod cursor;
 mod fault;
+mod laws;
 mod skipping;
+#[cfg(test)]
+mod tests;
 mod writer;
 
 pub use cursor::DeltaCursor;
 pub use fault::BadDelta;
+pub use laws::{canonical_spells, one_list};
 pub use writer::{DeltaWriter, one_canonical_spelling};

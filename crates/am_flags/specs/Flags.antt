@@ -37,6 +37,10 @@ AreFalse flags = AllByRecursion (λ flag. flag ≡ false) flags
 abbrev pub CanonMaybe : List ℕ → List Bool → Type 0
 CanonMaybe bytes flags = (AreFalse flags × (bytes ≡ [])) ⊎ ((¬ AreFalse flags) × CanonFlags bytes flags)
 
+-- No bytes spell any number of falses.
+abbrev pub SpellsFlags : List ℕ → List Bool → Type 0
+SpellsFlags bytes flags = (AreFalse flags × (bytes ≡ [])) ⊎ JoinsFlags bytes flags
+
 -- ---- the counts of a list
 
 abbrev pub one_more : List ℕ → List ℕ

@@ -17,7 +17,7 @@ pub not_true : (b : Bool) → (b ≡ true → ⊥) → b ≡ false
 not_true true h = absurd (h refl)
 not_true false h = refl
 
-other_bytes : (x y : List ℕ) → x ≢ y → bytes_eq x y ≡ false
+pub other_bytes : (x y : List ℕ) → x ≢ y → bytes_eq x y ≡ false
 other_bytes x y h = not_true (bytes_eq x y) (λ e. h ((bytes_eq-Decides x y).0 e))
 
 -- what the first of the runs begins with differs from this entry

@@ -14,3 +14,6 @@ pub mod Finishing
 pub mod ItemIs
 pub mod LikeEntries
 pub mod Spelled
+pub mod Sights
+pub mod Onward
+pub mod Spellings

@@ -57,7 +57,7 @@ runs_go_on end reads (d ∷ ds) (r ∷ rs) rest p q e =
     let v = runs_go_on end reads ds rs rest p.1 q.1 w.1 in
     (v.0, (let h = w.0 in let t = v.1 in cc), v.2, v.3)
 
-no_more : (more : List Run) → [] ≡ flat_map bytes_of more → more ≡ []
+pub no_more : (more : List Run) → [] ≡ flat_map bytes_of more → more ≡ []
 no_more [] e = refl
 no_more (r ∷ rs) e = absurd (omega (arith, ap length e, length-append (bytes_of r) (flat_map bytes_of rs), length_bytes_of-pos r))
 

@@ -4,12 +4,16 @@
 mod cursor;
 mod fault;
 mod item;
+mod judge;
+mod laws;
 mod likeness;
 mod pending;
 mod place;
 mod run;
 mod signed;
 mod skipping;
+#[cfg(test)]
+mod tests;
 mod text;
 mod unsigned;
 mod value;
@@ -20,6 +24,8 @@ pub use fault::BadRun;
 pub use item::{
     Item, SignedItem, TextItem, UnsignedItem, signed_items, text_items, unsigned_items,
 };
+pub use judge::is_canonical;
+pub use laws::{canonical_spells, one_spelled_list};
 pub use signed::SignedCursor;
 pub use text::TextCursor;
 pub use unsigned::UnsignedCursor;
