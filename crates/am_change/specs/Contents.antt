@@ -4,7 +4,7 @@
 --     contents c              the contents of its chunk
 --     chunk c                 its chunk, of type 1
 --     hash c                  the digest of type, length and contents
-use Rattle.std.specs.Prelude.{ℕ, List, ◌∷◌, ◌++◌, length}
+use Rattle.std.specs.Prelude.{ℕ, List, ◌++◌, length}
 use Rattle.std.specs.List.{flat_map}
 use Rattle.sha2.specs.Sha256.{sha256}
 use Rattle.am_leb.specs.Leb.{uleb, leb}

@@ -74,6 +74,7 @@ ids_read actors = record { is = is; back = back }
     is (Some place) (Some (pos counter)) id e =
         let w = id_from-is actors place counter id e in
         (ap Some w.0, ap (λ n. Some (pos n)) (sym w.1), w.2)
+
     back : (x : Option ℕ) (id : OpId) → option_map (slice_get actors) x ≡ option_map Some (id_actor id) → IsWithin id → IsSome (id_at actors x (id_counter id))
     back None id e within = absurd (cc)
     back (Some place) id e within =
@@ -93,6 +94,7 @@ objects_read actors = record { is = is; back = back }
         let w = id_from-is actors place counter found.0 found.1 in
         let P : ObjId → Type 0 = λ v. (option_map (slice_get actors) (Some place) ≡ option_map Some (object_actor v)) × (Some counter ≡ object_counter v) × IsObjectWithin v in
         subst P found.2 (ap Some w.0, ap Some (sym w.1), w.2)
+
     back : (x : Option ℕ) (o : ObjId) → option_map (slice_get actors) x ≡ option_map Some (object_actor o) → IsObjectWithin o → IsSome (object_at actors x (object_counter o))
     back None Root e within = refl
     back (Some place) Root e within = absurd (cc)
@@ -128,6 +130,7 @@ keys_read actors = record { is = λ x y k e. is x y.0 y.1 k e; back = back }
         let w = id_from-is actors place counter found.0 found.1 in
         let P : Key → Type 0 = λ v. (option_map (slice_get actors) (Some place) ≡ option_map Some (key_actor v)) × (◌≡◌ {A = Option ℤ × Option (List ℕ)} (Some (pos counter), None) (key_counter v, key_string v)) × IsKeyWithin v in
         subst P found.2 (ap Some w.0, ap (λ n. (Some (pos n), None)) (sym w.1), w.2)
+
     back : (x : Option ℕ) (k : Key) → option_map (slice_get actors) x ≡ option_map Some (key_actor k) → IsKeyWithin k → IsSome (key_at actors x (key_counter k) (key_string k))
     back None (types.Name n) e within = refl
     back (Some place) (types.Name n) e within = absurd (cc)

@@ -82,8 +82,8 @@ key_columns-same actors columns xs ys a b n =
     let counted : map key_counter xs ≡ map key_counter ys = Fills-same JoinsDeltas None deltas_one (column_at columns 19) (map key_counter xs) (map key_counter ys) a.1.0 b.1.0 (mapped key_counter xs ys n) in
     let spelled : map key_string xs ≡ map key_string ys = Fills-same JoinsTexts None texts_one (column_at columns 21) (map key_string xs) (map key_string ys) a.1.1.0 b.1.1.0 (mapped key_string xs ys n) in
     same_from_map {A = Option (List ℕ) × (Option ℤ × Option (List ℕ))} (λ x. (key_actor x, (key_counter x, key_string x)))
-        (λ x y e. key-same x y (ap (λ p. p.0) e) (ap (λ p. p.1.0) e) (ap (λ p. p.1.1) e)) xs ys
-        (same_map_pair key_actor (λ x. (key_counter x, key_string x)) xs ys named (same_map_pair key_counter key_string xs ys counted spelled))
+    (λ x y e. key-same x y (ap (λ p. p.0) e) (ap (λ p. p.1.0) e) (ap (λ p. p.1.1) e)) xs ys
+    (same_map_pair key_actor (λ x. (key_counter x, key_string x)) xs ys named (same_map_pair key_counter key_string xs ys counted spelled))
 
 given_id-same : (i j : OpId) → id_actor i ≡ id_actor j → id_counter i ≡ id_counter j → i ≡ j
 given_id-same i j p q = id-same i j (cc) (cc)

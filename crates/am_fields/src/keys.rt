@@ -120,7 +120,12 @@ impl<'a> KeyColumns<'a> {
         requires { 0 < length self.old }
         ensures { self.old ≡ key_of result ∷ self.new }
     {
-        match key_at(&self.actors, self.actor.next(), self.counter.next(), self.name.next()) {
+        match key_at(
+            &self.actors,
+            self.actor.next(),
+            self.counter.next(),
+            self.name.next(),
+        ) {
             Some(key) => key,
             None => unreachable!(),
         }

@@ -12,6 +12,8 @@ mod keys;
 mod number_writer;
 mod numbers;
 mod objects;
+#[cfg(test)]
+mod tests;
 mod text_writer;
 mod texts;
 mod values;

@@ -1,5 +1,5 @@
 -- Columns that ascend.
-use Rattle.std.proofs.Common.{◌≡◌, ℕ, zero, suc, ◌<◌, List, [], ◌∷◌, length, take, arith, refl, sym, ap, get_or}
+use Rattle.std.proofs.Common.{ℕ, zero, suc, ◌<◌, List, [], ◌∷◌, length, take, arith, get_or}
 use Rattle.std.specs.Borrow.{Bor}
 use Rattle.am_colmeta.specs.Metadata.{listing, Ascend, AscendFrom}
 use Rattle.am_colmeta.specs.Writing.{IsAbove}

@@ -1,10 +1,10 @@
 -- The columns that were written are the canonical ones.
-use Rattle.std.proofs.Common.{◌≡◌, ℕ, ◌+◌, ◌-◌, ◌<◌, ◌≤◌, ◌^◌, List, [], ◌∷◌, ◌++◌, length, map, Option, Some, None, Bool, refl, sym, ap, ◌∙◌, arith, subst}
+use Rattle.std.proofs.Common.{◌≡◌, ℕ, ◌+◌, ◌<◌, ◌≤◌, ◌^◌, List, [], ◌∷◌, ◌++◌, length, map, Option, Some, None, Bool, refl, sym, ap, ◌∙◌, arith, subst}
 use Rattle.std.specs.Prelude.{ℤ, pos, IfSome, All}
 use Rattle.std.specs.Option.{option_map}
-use Rattle.std.specs.List.{flat_map, AllByRecursion}
+use Rattle.std.specs.List.{AllByRecursion}
 use Rattle.std.proofs.lemmas.Int.{ints}
-use Rattle.std.proofs.lemmas.List.{length-map, length-append, map-append}
+use Rattle.std.proofs.lemmas.List.{length-append, map-append}
 use Rattle.std.proofs.lemmas.List.Elements.{All-head, All-tail}
 use Rattle.am_leb.specs.Leb.{uleb}
 use Rattle.am_types.specs.declared.OpId.{OpId}
@@ -17,7 +17,7 @@ use Rattle.am_delta.specs.Deltas.{IsMiddling, AreMiddling, CanonDeltas, canonica
 use Rattle.am_delta.proofs.OneSpelling.{CanonDeltas_iff}
 use Rattle.am_flags.specs.Flags.{CanonFlags, CanonMaybe, canonical_bytes, canonical_maybe_bytes}
 use Rattle.am_flags.proofs.Counting.{CanonFlags_iff, CanonMaybe_iff}
-use Rattle.am_values.specs.Columns.{metadata, joined, AllGood, CanonValues, spellings, canonical_numbers}
+use Rattle.am_values.specs.Columns.{metadata, joined, AllGood, CanonValues, spellings}
 use Rattle.am_values.proofs.Spelling.{one_canonical}
 use Rattle.am_opcols.proofs.WriteLaws.{pred_count-cons}
 use Rattle.am_runs.specs.Canonical as runs
@@ -54,7 +54,7 @@ preds_middling (o ∷ ops) all =
     let rest = flat (map (λ o. o.preds) ops) in
     let P : List (Option ℤ) → Type 0 = λ zs. AreMiddling zs in
     subst P (sym (map-append id_counter o.preds rest))
-        (all-append (λ value. IfSome value IsMiddling) (map id_counter o.preds) (map id_counter rest) (ids_middling o.preds (All-head FineOp o ops all).preds) (preds_middling ops (All-tail FineOp o ops all)))
+    (all-append (λ value. IfSome value IsMiddling) (map id_counter o.preds) (map id_counter rest) (ids_middling o.preds (All-head FineOp o ops all).preds) (preds_middling ops (All-tail FineOp o ops all)))
 
 pub values_good : (ops : List Op) → All FineOp ops → AllGood (map (λ o. o.value) ops)
 values_good [] all = tt
@@ -85,5 +85,5 @@ values_canonical o values numbers raw e good few canon =
 pub same_columns : (a1 a2 a3 a4 a5 a6 a7 a8 a9 b1 b2 b3 b4 b5 c1 c2 c3 c4 c5 c6 c7 c8 c9 d1 d2 d3 d4 d5 : List ℕ)
     → a1 ≡ c1 → a2 ≡ c2 → a3 ≡ c3 → a4 ≡ c4 → a5 ≡ c5 → a6 ≡ c6 → a7 ≡ c7 → a8 ≡ c8 → a9 ≡ c9 → b1 ≡ d1 → b2 ≡ d2 → b3 ≡ d3 → b4 ≡ d4 → b5 ≡ d5
     → ◌≡◌ {A = List (ℕ × List ℕ)} ((1, a1) ∷ (2, a2) ∷ (17, a3) ∷ (19, a4) ∷ (21, a5) ∷ (52, a6) ∷ (66, a7) ∷ (86, a8) ∷ (87, a9) ∷ (112, b1) ∷ (113, b2) ∷ (115, b3) ∷ (148, b4) ∷ (165, b5) ∷ [])
-        ((1, c1) ∷ (2, c2) ∷ (17, c3) ∷ (19, c4) ∷ (21, c5) ∷ (52, c6) ∷ (66, c7) ∷ (86, c8) ∷ (87, c9) ∷ (112, d1) ∷ (113, d2) ∷ (115, d3) ∷ (148, d4) ∷ (165, d5) ∷ [])
+    ((1, c1) ∷ (2, c2) ∷ (17, c3) ∷ (19, c4) ∷ (21, c5) ∷ (52, c6) ∷ (66, c7) ∷ (86, c8) ∷ (87, c9) ∷ (112, d1) ∷ (113, d2) ∷ (115, d3) ∷ (148, d4) ∷ (165, d5) ∷ [])
 same_columns a1 a2 a3 a4 a5 a6 a7 a8 a9 b1 b2 b3 b4 b5 c1 c2 c3 c4 c5 c6 c7 c8 c9 d1 d2 d3 d4 d5 e1 e2 e3 e4 e5 e6 e7 e8 e9 f1 f2 f3 f4 f5 = cc

@@ -1,22 +1,18 @@
 -- Columns spell at most one list of operations.
-use Rattle.std.proofs.Common.{◌≡◌, ℕ, ◌≤◌, List, [], ◌∷◌, length, map, ap, Option, None, Bool, false}
+use Rattle.std.proofs.Common.{◌≡◌, ℕ, List, [], ◌∷◌, length, map, ap, None, false}
 use Rattle.std.specs.List.{AllByRecursion}
-use Rattle.am_types.specs.declared.OpId.{OpId}
-use Rattle.am_types.specs.declared.ObjId.{ObjId}
-use Rattle.am_types.specs.declared.Key.{Key}
 use Rattle.am_types.specs.declared.RawValue.{RawValue}
 use Rattle.am_types.specs.declared.Op.{Op}
 use Rattle.am_runs.specs.Typed.{JoinsTexts}
 use Rattle.am_flags.specs.Flags.{JoinsFlags}
 use Rattle.am_colmeta.specs.Metadata.{column_at}
 use Rattle.am_values.specs.Columns.{AllGood}
-use Rattle.am_fields.specs.Columns.{SpellsColumns}
 use Rattle.am_fields.proofs.Filled.{Fills-same}
 use Rattle.am_fields.proofs.OneColumn.{texts_one, flags_one}
 use Rattle.am_fields.proofs.Lists.{same_map_pair, same_from_map, same_lengths}
 use Rattle.am_fields.proofs.GroupLaws.{actions_one}
 use Rattle.am_fields.proofs.OneReading.{mapped, object_columns-same, key_columns-same, value_columns-same, group_columns-same, IsKind}
-use Rattle.am_opcols.specs.Columns.{op_columns, SpellsOps}
+use Rattle.am_opcols.specs.Columns.{SpellsOps}
 use Rattle.am_opcols.specs.Rows.{Fields}
 
 abbrev fields : Op → Fields
@@ -49,10 +45,10 @@ ops-same actors columns xs ys p q =
     let expand = Fills-same JoinsFlags false flags_one (column_at columns 148) (map (λ o. o.expand) xs) (map (λ o. o.expand) ys) a'.1.1.1.1.1.0 b'.1.1.1.1.1.0 (mapped (λ o. o.expand) xs ys n) in
     let mark = Fills-same JoinsTexts None texts_one (column_at columns 165) (map (λ o. o.mark) xs) (map (λ o. o.mark) ys) a'.1.1.1.1.1.1.0 b'.1.1.1.1.1.1.0 (mapped (λ o. o.mark) xs ys n) in
     same_from_map {A = Fields} fields fields-same xs ys
-        (same_map_pair (λ o. o.obj) (λ o. (o.key, (o.insert, (o.action, (o.value, (o.preds, (o.expand, o.mark))))))) xs ys obj
-        (same_map_pair (λ o. o.key) (λ o. (o.insert, (o.action, (o.value, (o.preds, (o.expand, o.mark)))))) xs ys key
-        (same_map_pair (λ o. o.insert) (λ o. (o.action, (o.value, (o.preds, (o.expand, o.mark))))) xs ys insert
-        (same_map_pair (λ o. o.action) (λ o. (o.value, (o.preds, (o.expand, o.mark)))) xs ys action
-        (same_map_pair (λ o. o.value) (λ o. (o.preds, (o.expand, o.mark))) xs ys value
-        (same_map_pair (λ o. o.preds) (λ o. (o.expand, o.mark)) xs ys preds
-        (same_map_pair (λ o. o.expand) (λ o. o.mark) xs ys expand mark)))))))
+    (same_map_pair (λ o. o.obj) (λ o. (o.key, (o.insert, (o.action, (o.value, (o.preds, (o.expand, o.mark))))))) xs ys obj
+    (same_map_pair (λ o. o.key) (λ o. (o.insert, (o.action, (o.value, (o.preds, (o.expand, o.mark)))))) xs ys key
+    (same_map_pair (λ o. o.insert) (λ o. (o.action, (o.value, (o.preds, (o.expand, o.mark))))) xs ys insert
+    (same_map_pair (λ o. o.action) (λ o. (o.value, (o.preds, (o.expand, o.mark)))) xs ys action
+    (same_map_pair (λ o. o.value) (λ o. (o.preds, (o.expand, o.mark))) xs ys value
+    (same_map_pair (λ o. o.preds) (λ o. (o.expand, o.mark)) xs ys preds
+    (same_map_pair (λ o. o.expand) (λ o. o.mark) xs ys expand mark)))))))

@@ -1,6 +1,6 @@
 -- Operations are spelled by the columns that they are read from, and by no others.
-use Rattle.std.proofs.Common.{◌≡◌, ℕ, ◌≤◌, ◌^◌, suc, List, [], ◌∷◌, length, map, Option, Some, Bool, refl, arith, sym, ap, ◌∙◌, subst}
-use Rattle.std.specs.List.{zip, AllByRecursion}
+use Rattle.std.proofs.Common.{◌≡◌, ℕ, suc, List, [], ◌∷◌, length, map, Option, Bool, refl, arith, sym, ap, ◌∙◌, subst}
+use Rattle.std.specs.List.{zip}
 use Rattle.std.proofs.lemmas.List.{length-map}
 use Rattle.am_types.specs.declared.OpId.{OpId}
 use Rattle.am_types.specs.declared.ObjId.{ObjId}
@@ -8,14 +8,11 @@ use Rattle.am_types.specs.declared.Key.{Key}
 use Rattle.am_types.specs.declared.RawValue.{RawValue}
 use Rattle.am_types.specs.declared.Op.{Op}
 use Rattle.am_colmeta.specs.Metadata.{column_at}
-use Rattle.am_values.specs.Columns.{AllGood}
-use Rattle.am_fields.specs.Columns.{SpellsFlags, SpellsTexts, SpellsColumns}
-use Rattle.am_fields.specs.Layout.{flat}
-use Rattle.am_fields.specs.Limits.{IsWithin, IsObjectWithin, IsKeyWithin}
+use Rattle.am_fields.specs.Columns.{SpellsFlags, SpellsTexts}
 use Rattle.am_fields.specs.Spelling.{SpellsObjects, SpellsKeys, SpellsActions, SpellsValues, SpellsGroups}
 use Rattle.am_fields.proofs.GroupLaws.{actions_one}
-use Rattle.am_opcols.specs.Columns.{op_columns, AreOpsWithin, SpellsOps}
-use Rattle.am_opcols.specs.Rows.{Fields, op_with, ops_from}
+use Rattle.am_opcols.specs.Columns.{SpellsOps}
+use Rattle.am_opcols.specs.Rows.{op_with, ops_from}
 
 zip_first : {A B C : Type 0} (f : A → C) (xs : List A) (ys : List B) → length xs ≡ length ys → map (λ p. f p.0) (zip xs ys) ≡ map f xs
 zip_first f [] [] e = refl

@@ -1,7 +1,6 @@
 -- Actors that are put one after another.
-use Rattle.std.proofs.Common.{◌≡◌, ℕ, zero, suc, add-one, ◌+◌, ◌<◌, ◌≤◌, List, [], ◌∷◌, ◌++◌, length, take, drop, map, refl, sym, ap, ◌∙◌, arith, get_or, append_assoc, insert, Ordering, Less, Equal, Greater}
+use Rattle.std.proofs.Common.{◌≡◌, ℕ, zero, suc, add-one, ◌+◌, ◌<◌, ◌≤◌, List, [], ◌∷◌, ◌++◌, length, take, drop, map, refl, sym, ap, ◌∙◌, arith, get_or, append_assoc, insert, Less, Equal, Greater}
 use Rattle.std.specs.List.{flat_map}
-use Rattle.std.specs.Option.{option_to_list}
 use Rattle.am_types.specs.Order.{bytes_cmp}
 use Rattle.std.proofs.lemmas.List.{map-append, append-nil}
 use Rattle.am_types.specs.declared.OpId.{OpId}

@@ -3,9 +3,7 @@ use Rattle.std.proofs.Common.{◌≡◌, ℕ, zero, suc, get_or, ◌+◌, ◌<�
 use Rattle.std.specs.Prelude.{IfSome, IfNone, OnOk, Result, Ok, Err}
 use Rattle.am_types.specs.Fine.{pred_count}
 use Rattle.std.proofs.lemmas.List.Sums.{sum_by-cons}
-use Rattle.std.specs.Option.{option_map}
-use Rattle.std.specs.List.{flat_map}
-use Rattle.std.proofs.lemmas.List.{length-map, length-append, map-append, append-nil}
+use Rattle.std.proofs.lemmas.List.{length-append, map-append, append-nil}
 use Rattle.am_types.specs.declared.OpId.{OpId}
 use Rattle.am_types.specs.declared.Op.{Op}
 use Rattle.am_fields.specs.Layout.{flat}

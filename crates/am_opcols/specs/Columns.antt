@@ -5,7 +5,7 @@ use Rattle.std.specs.Prelude.{ℕ, ◌≤◌, ◌^◌, List, [], ◌∷◌, ◌+
 use Rattle.std.specs.List.{AllByRecursion}
 use Rattle.am_types.specs.declared.Op.{Op}
 use Rattle.am_values.specs.Columns.{AllGood}
-use Rattle.am_fields.specs.Columns.{Cells, Column, Flags, RareFlags, Texts, SpellsColumns}
+use Rattle.am_fields.specs.Columns.{Column, Flags, RareFlags, Texts, SpellsColumns}
 use Rattle.am_fields.specs.Layout.{object_columns, key_columns, value_columns, group_columns, given, flat}
 use Rattle.am_fields.specs.Limits.{IsWithin, IsObjectWithin, IsKeyWithin}
 

@@ -1,7 +1,7 @@
 -- What the writers of all columns hold.
 --     Wrote actors ops w     the operations were written to the columns of w, and all memory was had
 --     written_columns author ops     the canonical columns of the operations, those with bytes
-use Rattle.std.specs.Prelude.{◌≡◌, ℕ, List, ◌∷◌, length, map, Option, Some, option_map}
+use Rattle.std.specs.Prelude.{◌≡◌, ℕ, List, ◌∷◌, length, map, Some, option_map}
 use Rattle.std.specs.Borrow.{Bor}
 use Rattle.am_types.specs.declared.Op.{Op}
 use Rattle.am_colmeta.specs.Metadata.{not_empty}

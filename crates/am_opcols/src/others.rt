@@ -25,11 +25,7 @@ fn search(known: &[ActorId], actor: &ActorId) -> Result<usize, usize>
 }
 
 // Puts an actor at its place, unless it stands there.
-fn put_actor(
-    alloc: Global,
-    known: &mut Vec<ActorId>,
-    actor: &ActorId,
-) -> Result<(), AllocError>
+fn put_actor(alloc: Global, known: &mut Vec<ActorId>, actor: &ActorId) -> Result<(), AllocError>
     ensures { OnOk result (known.new.items ≡ put_at actor.now known.old.items) }
 {
     match search(known, actor) {

@@ -1,6 +1,5 @@
-use Rattle.std.proofs.Common.{◌≡◌, ◌++◌, length, take}
+use Rattle.std.proofs.Common.{◌≡◌, ◌++◌, take}
 use Rattle.std.specs.List.{flat_map}
-use Rattle.am_leb.specs.Leb.{uleb}
 use Rattle.am_change.proofs.write.push_hashes.Given as goal
 
 abbrev pub invariant-loop-hash : goal.invariant-loop-hash

@@ -1,4 +1,4 @@
-use Rattle.std.proofs.Common.{◌≡◌, ℕ, List, map, length, arith, ap, ◌∙◌, sym, refl}
+use Rattle.std.proofs.Common.{◌≡◌, List, map, length, ◌∙◌, sym}
 use Rattle.std.proofs.lemmas.List.{length-map}
 use Rattle.am_types.specs.declared.Op.{Op}
 use Rattle.am_fields.proofs.Filled.{OnErr-from}
@@ -64,7 +64,7 @@ returns-in_err-marks-clause-err c = OnErr-from c.from_residual-in_err-marks.resu
 pub returns-clause-spelled : goal.returns-clause-spelled
 returns-clause-spelled c =
     let even : Even c.left-count.result c.in_ok-objects.objects c.in_ok-keys.keys c.in_ok-inserts.inserts c.in_ok-actions.actions c.in_ok-values.values c.in_ok-preds.preds c.in_ok-expands.expands c.in_ok-marks.marks =
-        record { objects = c.in_ok-objects.ensures.count; keys = c.in_ok-keys.ensures.count; inserts = c.in_ok-inserts.ensures.count; actions = sym c.left-count.ensures; values = c.in_ok-values.ensures.count; preds = c.in_ok-preds.ensures.count; expands = c.in_ok-expands.ensures.count; marks = c.in_ok-marks.ensures.count } in
+    record { objects = c.in_ok-objects.ensures.count; keys = c.in_ok-keys.ensures.count; inserts = c.in_ok-inserts.ensures.count; actions = sym c.left-count.ensures; values = c.in_ok-values.ensures.count; preds = c.in_ok-preds.ensures.count; expands = c.in_ok-expands.ensures.count; marks = c.in_ok-marks.ensures.count } in
     let objects = rw (c.find-object_actor.ensures, c.find-object_counter.ensures) at c.in_ok-objects.ensures.spelled in
     let keys = rw (c.find-key_actor.ensures, c.find-key_counter.ensures, c.find-key_name.ensures) at c.in_ok-keys.ensures.spelled in
     let inserts = rw c.find-insert.ensures at c.in_ok-inserts.ensures.spelled in
@@ -74,5 +74,5 @@ returns-clause-spelled c =
     let expands = rw c.find-expand.ensures at c.in_ok-expands.ensures.spelled in
     let marks = rw c.find-mark.ensures at c.in_ok-marks.ensures.spelled in
     SpellsOps-made c.args.actors.now c.args.columns.now (ops_from c.in_ok-objects.objects c.in_ok-keys.keys c.in_ok-inserts.inserts c.in_ok-actions.actions c.in_ok-values.values c.in_ok-preds.preds c.in_ok-expands.expands c.in_ok-marks.marks) c.in_ok-objects.objects c.in_ok-keys.keys c.in_ok-inserts.inserts c.in_ok-actions.actions c.in_ok-values.values c.in_ok-preds.preds c.in_ok-expands.expands c.in_ok-marks.marks
-        (fields_from c.left-count.result c.in_ok-objects.objects c.in_ok-keys.keys c.in_ok-inserts.inserts c.in_ok-actions.actions c.in_ok-values.values c.in_ok-preds.preds c.in_ok-expands.expands c.in_ok-marks.marks even)
-        objects keys inserts actions values preds expands marks
+    (fields_from c.left-count.result c.in_ok-objects.objects c.in_ok-keys.keys c.in_ok-inserts.inserts c.in_ok-actions.actions c.in_ok-values.values c.in_ok-preds.preds c.in_ok-expands.expands c.in_ok-marks.marks even)
+    objects keys inserts actions values preds expands marks

@@ -1,5 +1,3 @@
-use Rattle.std.proofs.Common.{◌≡◌, ◌+◌, ◌++◌, ◌∷◌, [], map, take, sym, ap, ◌∙◌}
-use Rattle.am_opcols.specs.Others.{put_others, put_other}
 use Rattle.am_opcols.proofs.OtherLaws.{ids-next}
 use Rattle.am_opcols.proofs.others.put_ids.Goals as goal
 

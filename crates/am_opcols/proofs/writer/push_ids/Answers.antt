@@ -1,4 +1,4 @@
-use Rattle.std.proofs.Common.{◌≡◌, ◌<◌, ◌^◌, map, option_map, take, length, arith}
+use Rattle.std.proofs.Common.{◌<◌, ◌^◌, map, option_map, take, length, arith}
 use Rattle.std.proofs.lemmas.List.{length-map, length-take-le}
 use Rattle.am_fields.specs.Columns.{place_of}
 use Rattle.am_fields.specs.Layout.{id_actor, id_counter}
