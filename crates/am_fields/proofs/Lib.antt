@@ -1,0 +1,9 @@
+pub mod Filled
+pub mod OneColumn
+pub mod Lists
+pub mod Readings
+pub mod IdLaws
+pub mod GroupLaws
+pub mod OneReading
+pub mod Written
+pub mod Codes

@@ -1,0 +1,33 @@
+use Rattle.std.proofs.Common.{◌≡◌, ◌≤◌, ◌<◌, ℕ, List, Some, map, arith, length, ap, ◌∙◌, sym, refl}
+use Rattle.std.proofs.lemmas.List.{length-map}
+use Rattle.am_types.specs.declared.OpId.{OpId}
+use Rattle.am_fields.specs.Layout.{flat}
+use Rattle.am_fields.specs.Groups.{counts, total, AreGiven}
+use Rattle.am_fields.specs.Spelling.{SpellsGroups}
+use Rattle.am_fields.proofs.Filled.{OnErr-from}
+use Rattle.am_fields.proofs.GroupLaws.{SpellsGroups-parts, lengths-if_spelled, length-parts, length-counts}
+use Rattle.am_fields.proofs.groups.GroupColumns.over.Goals as goal
+
+pub returns-in_err-column-clause-err : goal.returns-in_err-column-clause-err
+returns-in_err-column-clause-err c = OnErr-from c.from_residual.result ((groups : List (List OpId)) → SpellsGroups c.args.actors.now c.args.group.now c.args.actor.now c.args.counter.now groups → length groups ≡ c.args.count → ⊥) (λ groups spelled n.
+    c.in_err-column.ensures.err (map Some (map length groups)) spelled.group_column (length-map (map length groups) Some ∙ length-map groups length ∙ n))
+
+pub returns-in_default-clause-err : goal.returns-in_default-clause-err
+returns-in_default-clause-err c = λ groups spelled n.
+    let told = lengths-if_spelled c.args.actors.now c.args.group.now c.args.actor.now c.args.counter.now c.in_ok-column.column c.in_ok-column.ensures.spelled groups spelled (n ∙ sym c.in_ok-column.ensures.count) in
+    let few = spelled.few in
+    c.in_default.ensures.none told.0 (omega arith)
+
+pub returns-in_err-ids-clause-err : goal.returns-in_err-ids-clause-err
+returns-in_err-ids-clause-err c = OnErr-from c.from_residual-in_err-ids.result ((groups : List (List OpId)) → SpellsGroups c.args.actors.now c.args.group.now c.args.actor.now c.args.counter.now groups → length groups ≡ c.args.count → ⊥) (λ groups spelled n.
+    let told = lengths-if_spelled c.args.actors.now c.args.group.now c.args.actor.now c.args.counter.now c.in_ok-column.column c.in_ok-column.ensures.spelled groups spelled (n ∙ sym c.in_ok-column.ensures.count) in
+    c.in_err-ids.ensures.err (flat groups) spelled.ids (sym told.1 ∙ sym c.in-Some.ensures.some.0))
+
+pub returns-clause-spelled : goal.returns-clause-spelled
+returns-clause-spelled c =
+    SpellsGroups-parts c.args.actors.now c.args.group.now c.args.actor.now c.args.counter.now c.in_ok-column.column c.in_ok-ids.ids c.in_ok-column.ensures.spelled c.in-Some.ensures.some.2 c.in_ok-ids.ensures.spelled
+    (sym c.in-Some.ensures.some.0 ∙ sym c.in_ok-ids.ensures.count)
+    (omega (arith, c.in-Some.ensures.some.0, c.in-Some.ensures.some.1))
+
+pub returns-clause-count : goal.returns-clause-count
+returns-clause-count c = length-parts (counts c.in_ok-column.column) c.in_ok-ids.ids ∙ length-counts c.in_ok-column.column ∙ c.in_ok-column.ensures.count

@@ -1,0 +1,10 @@
+pub mod Filling
+pub mod Columns
+pub mod Layout
+pub mod Limits
+pub mod Actors
+pub mod Reading
+pub mod Fields
+pub mod Groups
+pub mod Writing
+pub mod Spelling

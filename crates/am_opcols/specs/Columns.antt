@@ -1,0 +1,37 @@
+-- The columns of a change's operations. (Automerge Binary Document Format, "Operation Columns".)
+--     op_columns ops                    what each column holds, ascending by specification
+--     SpellsOps actors columns ops      the columns spell these operations, each within its limits
+use Rattle.std.specs.Prelude.{ℕ, ◌≤◌, ◌^◌, List, [], ◌∷◌, ◌++◌, length, map}
+use Rattle.std.specs.List.{AllByRecursion}
+use Rattle.am_types.specs.declared.Op.{Op}
+use Rattle.am_values.specs.Columns.{AllGood}
+use Rattle.am_fields.specs.Columns.{Column, Flags, RareFlags, Texts, SpellsColumns}
+use Rattle.am_fields.specs.Layout.{object_columns, key_columns, value_columns, group_columns, given, flat}
+use Rattle.am_fields.specs.Limits.{IsWithin, IsObjectWithin, IsKeyWithin}
+
+abbrev pub op_columns : List Op → List Column
+op_columns ops =
+    object_columns (map (λ o. o.obj) ops)
+    ++ key_columns (map (λ o. o.key) ops)
+    ++ (52, Flags (map (λ o. o.insert) ops))
+    ∷ (66, given (map (λ o. o.action) ops))
+    ∷ value_columns given (map (λ o. o.value) ops)
+    ++ group_columns 112 given (map (λ o. o.preds) ops)
+    ++ (148, RareFlags (map (λ o. o.expand) ops))
+    ∷ (165, Texts (map (λ o. o.mark) ops))
+    ∷ []
+
+-- Each action is one of the eight, each value is good, and each id is within its limits. There are at most 2 ^ 22
+-- operations, and as many predecessors of all together.
+pub record AreOpsWithin (ops : List Op) : Type 0 where
+  pub objects : AllByRecursion IsObjectWithin (map (λ o. o.obj) ops)
+  pub keys : AllByRecursion IsKeyWithin (map (λ o. o.key) ops)
+  pub actions : AllByRecursion (λ a. a ≤ 7) (map (λ o. o.action) ops)
+  pub values : AllGood (map (λ o. o.value) ops)
+  pub preds : AllByRecursion IsWithin (flat (map (λ o. o.preds) ops))
+  pub few : length ops ≤ 2 ^ 22
+  pub few_preds : length (flat (map (λ o. o.preds) ops)) ≤ 2 ^ 22
+
+pub record SpellsOps (actors : List (List ℕ)) (columns : List (ℕ × List ℕ)) (ops : List Op) : Type 0 where
+  pub spelled : SpellsColumns actors columns (op_columns ops)
+  pub within : AreOpsWithin ops

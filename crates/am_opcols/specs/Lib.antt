@@ -1,0 +1,4 @@
+pub mod Columns
+pub mod Rows
+pub mod Others
+pub mod Writing

@@ -1,0 +1,140 @@
+//! A cursor over the operations of a change. It takes no memory.
+ghost use Rattle.std.specs.Prelude.{◌≡◌, ◌∷◌, [], List, IfOk, IfSome, IfNone, OnErr};
+ghost use Rattle.am_types.specs.declared.Op.{Op};
+ghost use Rattle.am_opcols.specs.Columns.{SpellsOps};
+ghost use Rattle.am_opcols.specs.Rows.{op_of};
+
+use crate::fault::BadOps;
+use crate::op::OpRef;
+use am_colmeta::{ActorList, Columns};
+use am_fields::{
+    ActionColumn, Actors, BadFields, FlagColumn, GroupColumns, KeyColumns, ObjectColumns,
+    TextColumn, ValueColumns,
+};
+use std::marker::Model;
+
+/// The operations of a change, one after another.
+#[derive(Drop)]
+pub struct OpCursor<'a> {
+    objects: ObjectColumns<'a>,
+    keys: KeyColumns<'a>,
+    inserts: FlagColumn<'a>,
+    actions: ActionColumn<'a>,
+    values: ValueColumns<'a>,
+    preds: GroupColumns<'a>,
+    expands: FlagColumn<'a>,
+    marks: TextColumn<'a>,
+}
+
+impl<'a> Model for OpCursor<'a> {
+    ghost use Rattle.std.specs.Prelude.{List, length, ◌≡◌};
+    ghost use Rattle.am_types.specs.declared.Op.{Op};
+
+    ghost Value = { List Op };
+
+    ghost use Rattle.am_opcols.specs.Rows.{ops_from};
+
+    ghost view = { λ c. ops_from c.objects c.keys c.inserts c.actions c.values c.preds c.expands c.marks };
+
+    ghost invariant = { λ c. (length c.objects ≡ length c.actions)
+        × (length c.keys ≡ length c.actions)
+        × (length c.inserts ≡ length c.actions)
+        × (length c.values ≡ length c.actions)
+        × (length c.preds ≡ length c.actions)
+        × (length c.expands ≡ length c.actions)
+        × (length c.marks ≡ length c.actions) };
+}
+
+// The cursor over columns whose places name these actors.
+fn opened<'a>(columns: &Columns<'a>, actors: &Actors<'a>) -> Result<OpCursor<'a>, BadFields>
+    ensures spelled { IfOk result (SpellsOps actors.now columns.now) }
+    ensures err { OnErr result ((ops : List Op) → SpellsOps actors.now columns.now ops → ⊥) }
+{
+    let action = columns.find(66);
+    let insert = columns.find(52);
+    let expand = columns.find(148);
+    let mark = columns.find(165);
+    let object_actor = columns.find(1);
+    let object_counter = columns.find(2);
+    let key_actor = columns.find(17);
+    let key_counter = columns.find(19);
+    let key_name = columns.find(21);
+    let numbers = columns.find(86);
+    let raw = columns.find(87);
+    let group = columns.find(112);
+    let pred_actor = columns.find(113);
+    let pred_counter = columns.find(115);
+    let actions = ActionColumn::over(action)?;
+    let count = actions.left();
+    let objects = ObjectColumns::over(object_actor, object_counter, actors, count)?;
+    let keys = KeyColumns::over(key_actor, key_counter, key_name, actors, count)?;
+    let inserts = FlagColumn::over(insert, count)?;
+    let values = ValueColumns::over(numbers, raw, count)?;
+    let preds = GroupColumns::over(group, pred_actor, pred_counter, actors, count)?;
+    let expands = FlagColumn::over(expand, count)?;
+    let marks = TextColumn::over(mark, count)?;
+    Ok(OpCursor {
+        objects,
+        keys,
+        inserts,
+        actions,
+        values,
+        preds,
+        expands,
+        marks,
+    })
+}
+
+impl<'a> OpCursor<'a> {
+    /// The cursor over the columns of a change by this author, whose operations name these other actors.
+    pub fn over(
+        columns: Columns<'a>,
+        author: &'a [u8],
+        others: ActorList<'a>,
+    ) -> Result<Self, BadOps>
+        ensures spelled { IfOk result (SpellsOps (author.now ∷ others.entry) columns.entry) }
+        ensures err { OnErr result ((ops : List Op) → SpellsOps (author.now ∷ others.entry) columns.entry ops → ⊥) }
+    {
+        let actors = Actors::of_change(author, others);
+        match opened(&columns, &actors) {
+            Ok(cursor) => Ok(cursor),
+            Err(_) => Err(BadOps),
+        }
+    }
+
+    /// The next operation, or None behind the last.
+    pub fn next(&mut self) -> Option<OpRef<'a>>
+        ensures end { IfNone result ((self.old ≡ []) × (self.new ≡ [])) }
+        ensures next { IfSome result (λ op. self.old ≡ op_of op ∷ self.new) }
+    {
+        if self.actions.left() == 0 {
+            return None;
+        }
+        Some(OpRef {
+            obj: self.objects.next(),
+            key: self.keys.next(),
+            insert: self.inserts.next(),
+            action: self.actions.next(),
+            value: self.values.next(),
+            preds: self.preds.next(),
+            expand: self.expands.next(),
+            mark: self.marks.next(),
+        })
+    }
+
+    /// The same cursor again.
+    pub fn again(&self) -> Self
+        ensures { result ≡ self.now }
+    {
+        OpCursor {
+            objects: self.objects.again(),
+            keys: self.keys.again(),
+            inserts: self.inserts.again(),
+            actions: self.actions.again(),
+            values: self.values.again(),
+            preds: self.preds.again(),
+            expands: self.expands.again(),
+            marks: self.marks.again(),
+        }
+    }
+}

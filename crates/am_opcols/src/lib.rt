@@ -1,0 +1,19 @@
+//! The columns of a change's operations (Automerge Binary Document Format, "Operation Columns"): a cursor over them,
+//! and their canonical writing.
+#![tactic(auto)]
+
+mod cursor;
+mod fault;
+mod laws;
+mod op;
+mod others;
+mod places;
+mod write;
+mod writer;
+
+pub use am_fields::IdCursor as PredCursor;
+pub use cursor::OpCursor;
+pub use fault::BadOps;
+pub use laws::one_list;
+pub use op::OpRef;
+pub use write::{OpsText, write_ops};
