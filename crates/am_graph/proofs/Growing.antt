@@ -97,10 +97,10 @@ length_push (y ∷ xs) x = ap suc (length_push xs x)
 -- ---- an actor becomes an author
 
 module _ (g : List (Hash × Node)) (marks : List Mark) (authors : List (List ℕ)) (f : ℕ → ℕ → Option Hash) (whole : WholeOf g marks authors f) (y : List ℕ) where
-  known_at : (k : ℕ) (e : Hash × Node) → k < length g → (a : ℕ) × (number authors (get_or g k e).1.actor ≡ Some a)
+  pub known_at : (k : ℕ) (e : Hash × Node) → k < length g → (a : ℕ) × (number authors (get_or g k e).1.actor ≡ Some a)
   known_at k e l = let d : Mark = record { author = 0; depth = 0; away = 0; kept = None } in ((get_or marks k d).author, whole.numbers k d e l)
 
-  known_of : (C : List Member) → g ≡ nodes C → (m : Member) → Contains C m → (a : ℕ) × (number authors m.change.actor ≡ Some a)
+  pub known_of : (C : List Member) → g ≡ nodes C → (m : Member) → Contains C m → (a : ℕ) × (number authors m.change.actor ≡ Some a)
   known_of C is m cm =
       let some : Hash × Node = (m.hash, node_of m.change) in
       let ln = length_nodes C in let le = ap length is in let lm : cm.0 < length C = cm.1 in
@@ -402,3 +402,11 @@ module _ (g : List (Hash × Node)) (marks : List Mark) (authors : List (List ℕ
           let is : x ≡ n.actor = p.1 ∙ ap (λ k. get_or authors k x) e ∙ get_or_default authors mark.author x n.actor r.0 ∙ sym r.1 in
           both_ways (same_bytes x n.actor) eb (ap (same_bytes x) (sym is) ∙ nat_list_eq_equiv.refl x)) in
           simp (t1, eb) (subst (IsLeast (f1 a q)) (sym (append-nil (having g x q))) old)
+
+-- each member of the graph starts at 1 or later
+pub starts_of : (C : List Member) → IsSound (nodes C) → (m : Member) → Contains C m → 1 ≤ m.change.start
+starts_of C sound m cm =
+    let some : Hash × Node = (m.hash, node_of m.change) in
+    let n = length_nodes C in
+    let at : get_or (nodes C) cm.0 some ≡ (m.hash, node_of m.change) = node_at C cm.0 m some cm.1 ∙ ap (λ q. (q.hash, node_of q.change)) cm.2 in
+    subst (λ q. 1 ≤ q.1.start) at (sound.starts cm.0 some (let b = cm.1 in omega arith))

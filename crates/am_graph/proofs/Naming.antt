@@ -16,7 +16,7 @@ use Rattle.am_graph.specs.Graphs.{IsLeast, having}
 use Rattle.am_graph.specs.Reaches.{number, reach_at, IsBelow, Attained, IsTableOf}
 
 -- the place, by recursion
-pub place : {X : Type 0} → (X → Bool) → List X → Option ℕ
+unfoldable pub place : {X : Type 0} → (X → Bool) → List X → Option ℕ
 place p [] = None
 place p (x ∷ xs) = cond (p x) (Some 0) (option_map suc (place p xs))
 
