@@ -12,6 +12,7 @@ pub mod Found
 pub mod Held
 pub mod Named
 pub mod Pending
+pub mod SameNodes
 pub mod SortCalls
 pub mod Swept
 pub mod ValidFacts

@@ -20,10 +20,10 @@ use Rattle.am_graph.proofs.Swept.{Within, DoneFrom, within_more}
 abbrev pub Joined : (Hash → Bool) → (Hash → Bool) → Hash → Type 0
 Joined V W dep = (q : Hash) → W q ≡ cond (equality.eq-value.it dep q) true (V q)
 
-eq-true : (a b : Hash) → equality.eq-value.it a b ≡ true → a ≡ b
+pub eq-true : (a b : Hash) → equality.eq-value.it a b ≡ true → a ≡ b
 eq-true a b e = same_hash-true a b (is_eq-slice_cmp a.0 b.0 ∙ e)
 
-eq_itself : (a : Hash) → equality.eq-value.it a a ≡ true
+pub eq_itself : (a : Hash) → equality.eq-value.it a a ≡ true
 eq_itself a = sym (is_eq-slice_cmp a.0 a.0) ∙ same_hash_itself a
 
 module _ (V W : Hash → Bool) (dep : Hash) (joined : Joined V W dep) where
