@@ -1,20 +1,18 @@
 -- A table beside the authors is a clock.
-use Rattle.std.proofs.Common.{ℕ, zero, suc, ◌≡◌, ◌+◌, ◌-◌, ◌<◌, ◌≤◌, ◌↔◌, List, [], ◌∷◌, length, get_or, map, filter, find, nat_lt, Bool, true, false, cond, Option, Some, None, option_map, refl, sym, ap, ◌∙◌, subst, inl, inr, ◌⊎◌, All, Contains, IsTrue, arith}
+use Rattle.std.proofs.Common.{ℕ, zero, suc, ◌≡◌, ◌<◌, ◌≤◌, List, [], ◌∷◌, length, get_or, map, filter, Option, Some, None, option_map, refl, sym, ap, ◌∙◌, subst, inl, inr, ◌⊎◌, All, Contains, IsTrue, arith}
 use Rattle.std.specs.List.{zip, AllZip}
 use Rattle.std.specs.Option.{option_map_or}
-use Rattle.std.proofs.lemmas.Bool.{cases_Bool, both_ways, ltb-true, lt-ltb}
+use Rattle.std.proofs.lemmas.Bool.{cases_Bool, ltb-true, lt-ltb}
 use Rattle.std.proofs.lemmas.Cmp.{nat_list_eq_equiv}
 use Rattle.std.proofs.lemmas.List.{get_or_default}
-use Rattle.std.proofs.lemmas.List.Elements.{Contains-get_or}
 use Rattle.am_types.specs.declared.OpId.{OpId}
 use Rattle.am_types.specs.Same.{same_bytes}
 use Rattle.am_types.specs.Operations.{max}
 use Rattle.am_types.specs.Members.{Member}
-use Rattle.am_types.specs.Canonical.{largest}
 use Rattle.am_types.proofs.Ancestry.{Contains-filter, Contains-from_filter}
 use Rattle.am_types.proofs.Listed.{same_bytes-true}
 use Rattle.am_graph.specs.declared.reach.Reach.{Reach}
-use Rattle.am_graph.specs.Clocks.{Covers, IsClockOf, covers, reach_of, last_seq}
+use Rattle.am_graph.specs.Clocks.{Covers, IsClockOf, covers, reach_of}
 use Rattle.am_graph.specs.Reaches.{number, end, unreached, reach_at, IsTableOf}
 use Rattle.am_graph.proofs.Depths.{largest_is}
 use Rattle.am_graph.proofs.Growing.{number_at}

@@ -3,7 +3,7 @@
 --     nodes C           that of each member of C, beside its hash
 --     is_held g h       h is a hash of the graph
 use Rattle.std.specs.Ordering.{is_gt}
-use Rattle.std.specs.Prelude.{ℕ, ◌&&◌, ◌==◌, filter, ◌≡◌, ◌≢◌, ◌≤◌, ◌<◌, ◌+◌, ◌^◌, Bool, true, false, IsTrue, List, [], ◌∷◌, map, length, find, not, slice_index_or, All, Contains, Option, None, Some, ⊤}
+use Rattle.std.specs.Prelude.{ℕ, ◌&&◌, ◌==◌, filter, ◌≡◌, ◌≢◌, ◌≤◌, ◌<◌, ◌+◌, ◌^◌, Bool, true, false, List, [], map, length, find, not, slice_index_or, All, Contains, Option, None, Some, ⊤}
 use Rattle.std.specs.List.{list_any}
 use lib.Pointwise.{pointwise}
 use Rattle.am_types.specs.declared.Hash.{Hash}

@@ -1,8 +1,8 @@
-use Rattle.std.proofs.Common.{ℕ, ◌≡◌, ◌∙◌, ◌≤◌, List, length, get_or, map, Option, Some, None, ap, sym, refl, arith}
+use Rattle.std.proofs.Common.{ℕ, ◌≡◌, ◌∙◌, ◌≤◌, List, length, map, ap, sym, refl}
 use Rattle.std.specs.Option.{option_map_or}
 use Rattle.std.proofs.lemmas.List.{get_or_past}
 use Rattle.am_graph.specs.declared.reach.Reach.{Reach}
-use Rattle.am_graph.specs.Reaches.{number, reach_at, unreached}
+use Rattle.am_graph.specs.Reaches.{reach_at, unreached}
 use Rattle.am_graph.proofs.Clocking.{reach_zip}
 use Rattle.am_graph.proofs.Naming.{number_map}
 use Rattle.am_graph.proofs.clock.reach_of.Goals as goal

@@ -1,4 +1,4 @@
-use Rattle.std.proofs.Common.{◌≡◌, ◌∙◌, sym}
+use Rattle.std.proofs.Common.{◌∙◌, sym}
 use Rattle.am_graph.proofs.SameNodes.{answers_same, answers_clash}
 use Rattle.am_graph.proofs.graph.answer.Goals as goal
 

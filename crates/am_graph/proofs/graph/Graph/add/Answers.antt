@@ -1,4 +1,4 @@
-use Rattle.std.proofs.Common.{◌≡◌, ◌∙◌, sym}
+use Rattle.std.proofs.Common.{◌∙◌, sym}
 use Rattle.am_graph.proofs.SameNodes.{found_none}
 use Rattle.am_graph.proofs.graph.Graph.add.Goals as goal
 

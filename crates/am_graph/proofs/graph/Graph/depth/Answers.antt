@@ -1,4 +1,4 @@
-use Rattle.std.proofs.Common.{◌≡◌, ◌∙◌, ◌<◌, option_map, length, get_or, ap, sym, Some, None, arith}
+use Rattle.std.proofs.Common.{◌≡◌, ◌∙◌, ◌<◌, option_map, length, get_or, ap, sym, Some, arith}
 use Rattle.std.specs.List.{position}
 use Rattle.std.specs.Map.{keys_of}
 use Rattle.am_types.specs.contracts.hash.HashPartialEq.TheImpl as equality

@@ -1,4 +1,4 @@
-use Rattle.std.proofs.Common.{◌≡◌, ◌∙◌, [], ap, sym, subst, refl, None}
+use Rattle.std.proofs.Common.{◌≡◌, ◌∙◌, [], sym, subst, refl}
 use Rattle.am_graph.specs.Graphs.{IsLeast, having}
 use Rattle.am_graph.specs.Whole.{authors_of, first_in}
 use Rattle.am_graph.proofs.Growing.{known_at}
