@@ -1,15 +1,12 @@
 -- In a valid set, of the operations of the set, a clock covers just those of the ancestors.
-use Rattle.std.proofs.Common.{ℕ, ◌≡◌, ◌+◌, ◌-◌, ◌<◌, ◌≤◌, List, [], ◌∷◌, length, refl, sym, ap, ◌∙◌, subst, inl, inr, Contains, All, get_or, arith}
+use Rattle.std.proofs.Common.{◌≡◌, ◌+◌, ◌-◌, ◌<◌, ◌≤◌, List, length, sym, ap, ◌∙◌, subst, inl, inr, Contains, arith}
 use Rattle.std.proofs.lemmas.Bool.{cases_order}
-use Rattle.std.proofs.lemmas.List.Elements.{All-contains, Contains-get_or}
 use Rattle.am_types.specs.declared.Hash.{Hash}
-use Rattle.am_types.specs.Order.{hash_cmp, among}
 use Rattle.am_types.specs.Operations.{Operation, operations, all_operations, max}
 use Rattle.am_types.specs.Members.{Member, changes}
 use Rattle.am_types.specs.Ancestors.{ancestors}
-use Rattle.am_types.specs.ValidSets.{JoinInTurn}
-use Rattle.am_types.proofs.Listed.{Facts, listed}
-use Rattle.am_types.proofs.DistinctIds.{operation_of, numbered_at, later_starts_above, earlier, ancestors_trans, ancestor_is_member}
+use Rattle.am_types.proofs.Listed.{Facts}
+use Rattle.am_types.proofs.DistinctIds.{numbered_at, later_starts_above, earlier, ancestors_trans, ancestor_is_member}
 use Rattle.am_graph.specs.Clocks.{Covers}
 
 -- the change of an operation is among these

@@ -1,6 +1,5 @@
 -- The depth that some dependencies give.
 use Rattle.std.proofs.Common.{ℕ, ◌≡◌, ◌+◌, ◌<◌, ◌≤◌, List, [], ◌∷◌, ◌++◌, length, get_or, take, ◌||◌, Bool, true, false, max as larger, cond, nat_eq, Option, Some, refl, sym, ap, ◌∙◌, subst, inl, inr, ◌⊎◌, Contains, arith}
-use Rattle.std.specs.List.{list_any}
 use Rattle.std.proofs.lemmas.Bool.{both_ways, or_cases, cases_order, cases_lt, lt-ltb, le-ltb}
 use Rattle.std.proofs.lemmas.List.Folds.{list_any-append}
 use Rattle.am_types.specs.declared.Hash.{Hash}
@@ -18,7 +17,7 @@ use Rattle.std.proofs.lemmas.List.Elements.{Contains-get_or}
 use Rattle.am_types.specs.contracts.hash.HashPartialEq.TheImpl as equality
 use Rattle.am_graph.specs.declared.node.Node.{Node}
 use Rattle.am_graph.specs.declared.parts.Mark.{Mark}
-use Rattle.am_graph.specs.Graphs.{nodes, ForSet, IsSound}
+use Rattle.am_graph.specs.Graphs.{ForSet, IsSound}
 use Rattle.am_graph.specs.Whole.{WholeOf}
 use Rattle.am_graph.proofs.Depths.{AllLow, depth_is}
 use Rattle.am_graph.proofs.Growing.{one_hash, low_of, length_nodes, node_at}

@@ -1,8 +1,8 @@
 -- Ancestors by the first step: of several heads, and of one change.
-use Rattle.std.proofs.Common.{◌≡◌, List, [], ◌∷◌, true, refl, sym, ap, ◌∙◌, subst, inl, inr, ◌⊎◌, All, Contains, get_or}
+use Rattle.std.proofs.Common.{◌≡◌, List, [], ◌∷◌, true, refl, sym, subst, inl, inr, ◌⊎◌, All, Contains}
 use Rattle.std.proofs.lemmas.List.Elements.{All-contains, All-cons, All-nil}
 use Rattle.am_types.specs.declared.Hash.{Hash}
-use Rattle.am_types.specs.Order.{hash_cmp, same, among}
+use Rattle.am_types.specs.Order.{hash_cmp, among}
 use Rattle.am_types.specs.Members.{Member}
 use Rattle.am_types.specs.Ancestors.{is_named, ancestor_hashes, ancestors}
 use Rattle.am_types.proofs.Orders.{same_hash_itself}

@@ -1,5 +1,5 @@
 -- The hashes that a test picks, sorted.
-use Rattle.std.proofs.Common.{ℕ, zero, suc, ◌≡◌, ◌+◌, ◌<◌, ◌≤◌, List, [], ◌∷◌, ◌++◌, length, map, filter, take, Bool, true, false, cond, Option, Some, None, slice_get, refl, sym, ap, ◌∙◌, subst, inl, inr, All, Contains, IsPermutation, arith}
+use Rattle.std.proofs.Common.{ℕ, zero, suc, ◌≡◌, ◌+◌, List, [], ◌∷◌, ◌++◌, map, filter, take, Bool, true, false, cond, Some, slice_get, refl, ap, ◌∙◌, subst, inl, inr, All, Contains, IsPermutation, arith}
 use Rattle.std.specs.List.Sorted.{IsSorted}
 use Rattle.std.specs.Bool.{⊤}
 use Rattle.std.proofs.lemmas.Bool.{cases_Bool}
@@ -10,7 +10,7 @@ use Rattle.am_types.specs.Members.{Member, hashes}
 use Rattle.am_types.specs.Ancestors.{is_named, ancestor_hashes, ancestors}
 use Rattle.am_types.proofs.Orders.{hash_total, hash_exact}
 use Rattle.am_graph.specs.declared.node.Node.{Node}
-use Rattle.am_graph.specs.Graphs.{nodes, node_of, ForSet, TellsAncestors}
+use Rattle.am_graph.specs.Graphs.{nodes, ForSet, TellsAncestors}
 use Rattle.am_graph.proofs.SortCalls.{sorted_is}
 
 abbrev pub wanted_among : (Hash → Bool) → List (Hash × Node) → List Hash

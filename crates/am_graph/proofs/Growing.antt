@@ -1,21 +1,21 @@
 -- The parts of a graph stay whole when an actor becomes an author, and when a change joins.
-use Rattle.std.proofs.Common.{ℕ, zero, suc, ◌≡◌, ◌+◌, ◌-◌, ◌<◌, ◌≤◌, ◌^◌, ◌==◌, ◌&&◌, List, [], ◌∷◌, ◌++◌, length, get_or, map, filter, Bool, true, false, cond, Option, Some, None, refl, sym, ap, ◌∙◌, subst, inl, inr, ◌⊎◌, All, Contains, arith, eq-eqb}
+use Rattle.std.proofs.Common.{ℕ, zero, suc, ◌≡◌, ◌+◌, ◌-◌, ◌<◌, ◌≤◌, ◌^◌, ◌==◌, ◌&&◌, List, [], ◌∷◌, ◌++◌, length, get_or, filter, Bool, true, false, cond, Option, Some, None, refl, sym, ap, ◌∙◌, subst, inl, inr, ◌⊎◌, All, Contains, arith, eq-eqb}
 use Rattle.std.specs.Option.{IfSome}
 use Rattle.std.specs.Ordering.{is_gt, ordering_reverse}
 use Rattle.std.specs.declared.cmp.Ordering.{Ordering}
 use Rattle.std.specs.declared.cmp.Ordering.TheVariants.{Less, Equal, Greater}
-use Rattle.std.proofs.lemmas.Bool.{cases_Bool, both_ways, and_parts, and_from, cases_eq, cases_lt, cases_order, eqb-true}
+use Rattle.std.proofs.lemmas.Bool.{cases_Bool, both_ways, cases_lt, cases_order, eqb-true}
 use Rattle.std.proofs.lemmas.List.{append-nil, map-append, get_or_default, get_or_append_left, get_or-append_right}
 use Rattle.std.proofs.lemmas.List.Elements.{All-contains, All-cons, All-nil, All-append, All-weaker, Contains-append_left, Contains-append_right, Contains-get_or, filter-append}
 use Rattle.am_types.specs.declared.Hash.{Hash}
 use Rattle.am_types.specs.declared.Change.{Change}
 use Rattle.am_types.specs.Order.{hash_cmp, among}
 use Rattle.am_types.specs.Same.{same_bytes, same_hash}
-use Rattle.am_types.specs.Members.{Member, hashes, holds}
+use Rattle.am_types.specs.Members.{Member, holds}
 use Rattle.am_types.specs.Ancestors.{ancestors}
 use Rattle.am_types.specs.Canonical.{dependencies, depth}
-use Rattle.am_types.proofs.Orders.{hash_total, same_hash-true, same_hash_itself}
-use Rattle.am_types.proofs.Growth.{ancestors_stay, among_at, found_among}
+use Rattle.am_types.proofs.Orders.{hash_total, same_hash_itself}
+use Rattle.am_types.proofs.Growth.{ancestors_stay, found_among}
 use Rattle.am_types.proofs.DistinctIds.{ancestor_is_member, ancestors_trans}
 use Rattle.am_types.proofs.Ancestry.{ancestors_named}
 use Rattle.am_types.proofs.Listed.{holds_own, same_bytes-true}
@@ -23,19 +23,18 @@ use Rattle.std.proofs.lemmas.List.Quantifiers.{position-Some}
 use Rattle.std.proofs.lemmas.Cmp.{nat_list_eq_equiv}
 use Rattle.am_graph.specs.declared.node.Node.{Node}
 use Rattle.am_graph.specs.declared.parts.Mark.{Mark}
-use Rattle.am_graph.specs.declared.parts.Parts.{Parts}
 use Rattle.am_graph.specs.declared.reach.Reach.{Reach}
 use Rattle.am_graph.specs.Graphs.{node_of, nodes, ForSet, names, is_held, missing, IsSound, IsLeast, having}
 use Rattle.am_graph.specs.Reaches.{number, IsTableOf}
 use Rattle.am_graph.specs.Whole.{WholeOf, MarkOf, Notes, lesser}
 use Rattle.am_graph.proofs.Held.{is_held-nodes}
 use Rattle.am_graph.proofs.Joining.{sound_push, all_held}
-use Rattle.am_graph.proofs.Depths.{Low, AllLow, low_all, same_depth}
+use Rattle.am_graph.proofs.Depths.{AllLow, low_all, same_depth}
 use Rattle.std.proofs.lemmas.Cmp.{tied_itself}
 use Rattle.am_graph.specs.Reaches.{end}
 use Rattle.am_graph.proofs.Walking.{attained_within}
 use Rattle.am_graph.proofs.Descent.{among_one, from_one}
-use Rattle.am_graph.proofs.Naming.{number_more, number_back, number_last, table_more, having_none}
+use Rattle.am_graph.proofs.Naming.{number_more, number_back, table_more, having_none}
 
 -- ---- the members of a graph by their places
 
@@ -97,10 +96,10 @@ length_push (y ∷ xs) x = ap suc (length_push xs x)
 -- ---- an actor becomes an author
 
 module _ (g : List (Hash × Node)) (marks : List Mark) (authors : List (List ℕ)) (f : ℕ → ℕ → Option Hash) (whole : WholeOf g marks authors f) (y : List ℕ) where
-  known_at : (k : ℕ) (e : Hash × Node) → k < length g → (a : ℕ) × (number authors (get_or g k e).1.actor ≡ Some a)
+  pub known_at : (k : ℕ) (e : Hash × Node) → k < length g → (a : ℕ) × (number authors (get_or g k e).1.actor ≡ Some a)
   known_at k e l = let d : Mark = record { author = 0; depth = 0; away = 0; kept = None } in ((get_or marks k d).author, whole.numbers k d e l)
 
-  known_of : (C : List Member) → g ≡ nodes C → (m : Member) → Contains C m → (a : ℕ) × (number authors m.change.actor ≡ Some a)
+  pub known_of : (C : List Member) → g ≡ nodes C → (m : Member) → Contains C m → (a : ℕ) × (number authors m.change.actor ≡ Some a)
   known_of C is m cm =
       let some : Hash × Node = (m.hash, node_of m.change) in
       let ln = length_nodes C in let le = ap length is in let lm : cm.0 < length C = cm.1 in
@@ -402,3 +401,11 @@ module _ (g : List (Hash × Node)) (marks : List Mark) (authors : List (List ℕ
           let is : x ≡ n.actor = p.1 ∙ ap (λ k. get_or authors k x) e ∙ get_or_default authors mark.author x n.actor r.0 ∙ sym r.1 in
           both_ways (same_bytes x n.actor) eb (ap (same_bytes x) (sym is) ∙ nat_list_eq_equiv.refl x)) in
           simp (t1, eb) (subst (IsLeast (f1 a q)) (sym (append-nil (having g x q))) old)
+
+-- each member of the graph starts at 1 or later
+pub starts_of : (C : List Member) → IsSound (nodes C) → (m : Member) → Contains C m → 1 ≤ m.change.start
+starts_of C sound m cm =
+    let some : Hash × Node = (m.hash, node_of m.change) in
+    let n = length_nodes C in
+    let at : get_or (nodes C) cm.0 some ≡ (m.hash, node_of m.change) = node_at C cm.0 m some cm.1 ∙ ap (λ q. (q.hash, node_of q.change)) cm.2 in
+    subst (λ q. 1 ≤ q.1.start) at (sound.starts cm.0 some (let b = cm.1 in omega arith))

@@ -1,5 +1,5 @@
 -- What the map's look-ups say of a graph.
-use Rattle.std.proofs.Common.{ℕ, ◌≡◌, Bool, true, false, ◌||◌, List, [], ◌∷◌, ◌++◌, map, refl, sym, ap, ◌∙◌}
+use Rattle.std.proofs.Common.{◌≡◌, Bool, true, false, ◌||◌, List, [], ◌∷◌, ◌++◌, map, refl, sym, ap, ◌∙◌}
 use Rattle.std.specs.List.{list_any}
 use Rattle.std.specs.Map.{lookup, keys_of}
 use Rattle.std.specs.Option.{is_some}
@@ -12,7 +12,7 @@ use Rattle.indexmap.specs.IndexMap.{insert_entry}
 use Rattle.am_types.specs.Order.{hash_cmp, same, among}
 use Rattle.am_types.specs.Members.{Member, hashes, holds}
 use Rattle.am_graph.specs.declared.node.Node.{Node}
-use Rattle.am_graph.specs.Graphs.{nodes, node_of, is_held}
+use Rattle.am_graph.specs.Graphs.{nodes, is_held}
 
 pub among-eq : (h : Hash) (hs : List Hash) → list_any (equality.eq-value.it h) hs ≡ among hash_cmp hs h
 among-eq h hs i = list_any (λ k. sym (is_eq-slice_cmp h.0 k.0) i) hs

@@ -1,14 +1,14 @@
 -- A graph stays sound where a new change joins at the end.
-use Rattle.std.proofs.Common.{ℕ, zero, suc, ◌≡◌, ◌+◌, ◌-◌, ◌<◌, ◌≤◌, ◌^◌, List, [], ◌∷◌, ◌++◌, length, get_or, map, find, not, Bool, true, false, ◌||◌, Option, Some, None, refl, sym, ap, ◌∙◌, subst, inl, inr, All, Contains, arith}
-use Rattle.std.specs.List.{list_any, AllWithin}
+use Rattle.std.proofs.Common.{ℕ, zero, suc, ◌≡◌, ◌+◌, ◌-◌, ◌<◌, ◌≤◌, ◌^◌, List, [], ◌∷◌, ◌++◌, length, get_or, map, true, false, Some, None, refl, ap, ◌∙◌, subst, inl, inr, All, arith}
+use Rattle.std.specs.List.{list_any}
 use Rattle.std.proofs.lemmas.Bool.{cases_Bool, both_ways, or_left, or_right, cases_eq}
-use Rattle.std.proofs.lemmas.List.{map-append, get_or_default, get_or_append_left, get_or-append_right}
-use Rattle.std.proofs.lemmas.List.Elements.{All-contains, All-cons, All-nil, All-append, All-weaker, Contains-get_or}
+use Rattle.std.proofs.lemmas.List.{map-append, get_or_append_left, get_or-append_right}
+use Rattle.std.proofs.lemmas.List.Elements.{All-contains, All-cons, All-nil, All-append, All-weaker}
 use Rattle.std.proofs.lemmas.List.Folds.{list_any-append}
 use Rattle.am_types.specs.declared.Hash.{Hash}
 use Rattle.am_types.specs.Order.{hash_cmp, same, among}
 use Rattle.am_types.specs.Same.{same_hash}
-use Rattle.am_types.proofs.Growth.{found_among, among_at}
+use Rattle.am_types.proofs.Growth.{found_among}
 use Rattle.am_types.proofs.Orders.{same_hash-true, same_hash_itself}
 use Rattle.am_graph.specs.declared.node.Node.{Node}
 use Rattle.am_graph.specs.Graphs.{names, is_held, missing, IsSound}

@@ -1,4 +1,5 @@
 pub mod Joining
+pub mod Clocking
 pub mod Covered
 pub mod Depths
 pub mod Noting
@@ -6,12 +7,15 @@ pub mod Deepest
 pub mod Growing
 pub mod Naming
 pub mod Descent
+pub mod Finding
 pub mod Found
 pub mod Held
 pub mod Named
 pub mod Pending
+pub mod SameNodes
 pub mod SortCalls
 pub mod Swept
+pub mod ValidFacts
 pub mod Waiting
 pub mod Visiting
 pub mod Walking

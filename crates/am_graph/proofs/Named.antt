@@ -1,16 +1,15 @@
 -- The hashes that are dependencies, gathered in order.
-use Rattle.std.proofs.Common.{ℕ, zero, suc, ◌≡◌, ◌+◌, ◌<◌, ◌≤◌, List, [], ◌∷◌, ◌++◌, length, get_or, map, filter, not, take, Bool, true, false, ◌||◌, cond, Option, Some, None, slice_get, refl, sym, ap, ◌∙◌, subst, inl, inr, IsPermutation, arith}
+use Rattle.std.proofs.Common.{ℕ, zero, suc, ◌≡◌, ◌+◌, ◌<◌, List, [], ◌∷◌, ◌++◌, length, get_or, filter, not, take, Bool, true, false, ◌||◌, cond, refl, sym, ap, ◌∙◌, subst, inl, inr, IsPermutation, arith}
 use Rattle.std.specs.List.{list_any}
 use Rattle.std.specs.List.Sorted.{IsSorted}
 use Rattle.std.specs.Bool.{⊤}
 use Rattle.std.proofs.lemmas.Bool.{cases_Bool}
 use Rattle.std.proofs.lemmas.List.Folds.{list_any-append}
 use Rattle.std.proofs.lemmas.Map.Text.{is_eq-slice_cmp}
-use Rattle.am_types.specs.contracts.hash.HashPartialEq.TheImpl as equality
 use Rattle.am_types.specs.declared.Hash.{Hash}
 use Rattle.am_types.specs.Order.{hash_cmp, same, among, sorted_by}
 use Rattle.am_types.specs.Members.{Member, hashes, is_dependency, heads}
-use Rattle.am_types.proofs.Orders.{hash_total, hash_exact, same_hash-true, same_hash_itself}
+use Rattle.am_types.proofs.Orders.{hash_total, hash_exact, same_hash-true}
 use Rattle.am_graph.specs.declared.node.Node.{Node}
 use Rattle.am_graph.specs.Graphs.{nodes, names, ForSet, is_named_in}
 use Rattle.am_graph.proofs.Found.{wanted_among}

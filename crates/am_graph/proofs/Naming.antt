@@ -1,22 +1,18 @@
 -- The numbers of authors, and what stays when an actor becomes an author.
-use Rattle.std.proofs.Common.{ℕ, zero, suc, ◌≡◌, ◌+◌, ◌<◌, ◌≤◌, ◌==◌, ◌&&◌, List, [], ◌∷◌, ◌++◌, length, get_or, map, filter, nat_lt, Bool, true, false, cond, Option, Some, None, option_map, refl, sym, ap, ◌∙◌, subst, inl, inr, ◌⊎◌, All, Contains, arith}
+use Rattle.std.proofs.Common.{ℕ, suc, ◌≡◌, ◌+◌, ◌<◌, ◌==◌, ◌&&◌, List, [], ◌∷◌, ◌++◌, length, get_or, map, nat_lt, Bool, true, cond, Option, Some, None, option_map, refl, sym, ap, ◌∙◌, subst, inl, inr, ◌⊎◌, Contains, arith}
 use Rattle.std.specs.List.{position, position_or_len}
-use Rattle.std.specs.Option.{IfSome}
-use Rattle.std.proofs.lemmas.Bool.{cases_Bool, cases_lt, lt-ltb, le-ltb, both_ways, and_parts}
-use Rattle.std.proofs.lemmas.List.{map-append}
+use Rattle.std.proofs.lemmas.Bool.{cases_Bool, cases_lt, lt-ltb, le-ltb, and_parts}
 use Rattle.am_types.specs.declared.Hash.{Hash}
 use Rattle.am_types.specs.Same.{same_bytes}
 use Rattle.am_types.specs.Members.{Member}
 use Rattle.am_types.proofs.Listed.{same_bytes-true}
 use Rattle.am_graph.specs.declared.node.Node.{Node}
-use Rattle.am_graph.specs.declared.parts.Mark.{Mark}
-use Rattle.am_graph.specs.declared.parts.Parts.{Parts}
 use Rattle.am_graph.specs.declared.reach.Reach.{Reach}
-use Rattle.am_graph.specs.Graphs.{IsLeast, having}
-use Rattle.am_graph.specs.Reaches.{number, reach_at, IsBelow, Attained, IsTableOf}
+use Rattle.am_graph.specs.Graphs.{having}
+use Rattle.am_graph.specs.Reaches.{number, Attained, IsTableOf}
 
 -- the place, by recursion
-pub place : {X : Type 0} → (X → Bool) → List X → Option ℕ
+unfoldable pub place : {X : Type 0} → (X → Bool) → List X → Option ℕ
 place p [] = None
 place p (x ∷ xs) = cond (p x) (Some 0) (option_map suc (place p xs))
 

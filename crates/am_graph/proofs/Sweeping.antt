@@ -1,29 +1,27 @@
 -- The steps of the sweep. V is the set before a hash joins, and W the set with it.
-use Rattle.std.proofs.Common.{ℕ, zero, suc, ◌≡◌, ◌+◌, ◌-◌, ◌<◌, ◌≤◌, List, [], ◌∷◌, length, get_or, find, not, Bool, true, false, cond, Option, Some, None, refl, sym, ap, ◌∙◌, subst, inl, inr, ◌⊎◌, All, Contains, arith}
+use Rattle.std.proofs.Common.{ℕ, zero, suc, ◌≡◌, ◌+◌, ◌-◌, ◌<◌, ◌≤◌, List, [], ◌∷◌, length, get_or, find, not, Bool, true, false, cond, Some, None, refl, sym, ap, ◌∙◌, subst, inl, inr, ◌⊎◌, All, Contains, arith}
 use Rattle.std.specs.List.{AllWithin}
 use Rattle.std.proofs.lemmas.Bool.{cases_Bool, both_ways, cases_eq}
 use Rattle.std.proofs.lemmas.List.{get_or_default}
-use Rattle.std.proofs.lemmas.List.Elements.{All-contains, Contains-get_or}
+use Rattle.std.proofs.lemmas.List.Elements.{Contains-get_or}
 use Rattle.std.proofs.lemmas.Map.Text.{is_eq-slice_cmp}
 use Rattle.am_types.specs.contracts.hash.HashPartialEq.TheImpl as equality
 use Rattle.am_types.specs.declared.Hash.{Hash}
 use Rattle.am_types.specs.Order.{hash_cmp, same, among}
-use Rattle.am_types.specs.Members.{Member}
-use Rattle.am_types.specs.Ancestors.{ancestors}
 use Rattle.am_types.proofs.Orders.{same_hash-true, same_hash_itself}
 use Rattle.am_types.proofs.Ancestry.{ancestors_named}
-use Rattle.am_types.proofs.Growth.{among_at, found_among}
+use Rattle.am_types.proofs.Growth.{among_at}
 use Rattle.am_graph.specs.declared.node.Node.{Node}
-use Rattle.am_graph.specs.Graphs.{nodes, names, is_held, missing, IsSound, ForSet}
+use Rattle.am_graph.specs.Graphs.{names, is_held, IsSound}
 use Rattle.am_graph.proofs.Swept.{Within, DoneFrom, within_more}
 
 abbrev pub Joined : (Hash → Bool) → (Hash → Bool) → Hash → Type 0
 Joined V W dep = (q : Hash) → W q ≡ cond (equality.eq-value.it dep q) true (V q)
 
-eq-true : (a b : Hash) → equality.eq-value.it a b ≡ true → a ≡ b
+pub eq-true : (a b : Hash) → equality.eq-value.it a b ≡ true → a ≡ b
 eq-true a b e = same_hash-true a b (is_eq-slice_cmp a.0 b.0 ∙ e)
 
-eq_itself : (a : Hash) → equality.eq-value.it a a ≡ true
+pub eq_itself : (a : Hash) → equality.eq-value.it a a ≡ true
 eq_itself a = sym (is_eq-slice_cmp a.0 a.0) ∙ same_hash_itself a
 
 module _ (V W : Hash → Bool) (dep : Hash) (joined : Joined V W dep) where

@@ -1,17 +1,15 @@
 -- A sweep from the last change to the first: what is wanted passes on to dependencies. W is the set so far.
-use Rattle.std.proofs.Common.{ℕ, zero, suc, ◌≡◌, ◌+◌, ◌<◌, ◌≤◌, List, [], ◌∷◌, length, get_or, map, Bool, true, false, ◌||◌, refl, sym, ap, ◌∙◌, subst, inl, inr, ◌⊎◌, All, Contains, arith}
-use Rattle.std.proofs.lemmas.Bool.{cases_Bool, both_ways}
+use Rattle.std.proofs.Common.{ℕ, zero, suc, ◌≡◌, ◌<◌, ◌≤◌, List, [], ◌∷◌, length, get_or, Bool, true, refl, sym, ap, ◌∙◌, subst, inl, inr, ◌⊎◌, All, Contains, arith}
 use Rattle.std.proofs.lemmas.List.{get_or_default}
 use Rattle.std.proofs.lemmas.List.Elements.{All-contains, Contains-get_or}
 use Rattle.am_types.specs.declared.Hash.{Hash}
-use Rattle.am_types.specs.Order.{hash_cmp, same, among}
+use Rattle.am_types.specs.Order.{same}
 use Rattle.am_types.specs.Members.{Member}
 use Rattle.am_types.specs.Ancestors.{is_named, ancestor_hashes, ancestors}
-use Rattle.am_types.proofs.Orders.{same_hash-true, same_hash_itself}
-use Rattle.am_types.proofs.Ancestry.{ancestors_named, ancestors_closed, ancestors_least, Contains-from_filter}
+use Rattle.am_types.proofs.Ancestry.{ancestors_closed, ancestors_least, Contains-from_filter}
 use Rattle.am_types.proofs.Growth.{among_at, found_among, same_answers}
 use Rattle.am_graph.specs.declared.node.Node.{Node}
-use Rattle.am_graph.specs.Graphs.{nodes, node_of, names, ForSet, IsSound, TellsAncestors}
+use Rattle.am_graph.specs.Graphs.{nodes, node_of, ForSet, TellsAncestors}
 
 -- what is wanted is an ancestor
 abbrev pub Within : List (Hash × Node) → List Hash → (Hash → Bool) → Type 0

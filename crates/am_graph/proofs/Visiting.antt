@@ -1,11 +1,8 @@
 -- What the parts of a graph say at a place, and a visit there.
-use Rattle.std.proofs.Common.{ℕ, zero, suc, ◌≡◌, ◌+◌, ◌<◌, ◌≤◌, ◌^◌, ◌||◌, List, [], ◌∷◌, length, get_or, find, not, Bool, true, false, cond, Option, Some, None, Result, Ok, Err, refl, sym, ap, ◌∙◌, subst, inl, inr, ◌⊎◌, All, Contains, pos, arith}
-use Rattle.std.specs.Option.{IfSome}
+use Rattle.std.proofs.Common.{ℕ, zero, suc, ◌≡◌, ◌+◌, ◌<◌, ◌≤◌, ◌^◌, ◌||◌, List, [], ◌∷◌, length, get_or, Bool, true, false, Option, Some, None, Result, Ok, Err, refl, sym, ap, ◌∙◌, subst, inl, inr, ◌⊎◌, All, pos, arith}
 use Rattle.std.specs.Result.{IfErr, OnOk}
-use Rattle.std.proofs.lemmas.Bool.{cases_Bool, cases_lt, both_ways, or_cases}
+use Rattle.std.proofs.lemmas.Bool.{cases_lt, both_ways}
 use Rattle.am_types.specs.declared.Hash.{Hash}
-use Rattle.am_types.specs.declared.Change.{Change}
-use Rattle.am_types.specs.Order.{hash_cmp, among}
 use Rattle.am_types.specs.Members.{Member}
 use Rattle.am_types.specs.Ancestors.{ancestors}
 use Rattle.am_graph.specs.declared.node.Node.{Node}
@@ -13,14 +10,14 @@ use Rattle.am_graph.specs.declared.parts.Mark.{Mark}
 use Rattle.am_graph.specs.declared.reach.Reach.{Reach}
 use Rattle.am_graph.specs.declared.fault.ClockFault.{ClockFault}
 use Rattle.am_graph.specs.declared.fault.ClockFault.TheVariants.{UnknownHead, NoMemory}
-use Rattle.am_graph.specs.Graphs.{node_of, nodes, ForSet, names, is_held, missing, IsSound, MatchFault}
-use Rattle.am_graph.specs.Reaches.{number, end, Raised, Merged, IsTableOf}
+use Rattle.am_graph.specs.Graphs.{node_of, nodes, names, is_held, missing, IsSound, MatchFault}
+use Rattle.am_graph.specs.Reaches.{number, Raised, Merged, IsTableOf}
 use Rattle.am_graph.specs.Whole.{WholeOf}
 use Rattle.am_graph.specs.Walks.{is_place_of, Walk}
 use Rattle.am_graph.proofs.Growing.{one_hash, length_nodes, node_at, number_at}
 use Rattle.am_graph.proofs.Sweeping.{find_none_within}
 use Rattle.am_graph.proofs.Waiting.{place_at}
-use Rattle.am_graph.proofs.Walking.{own, walk_takes, walk_visits}
+use Rattle.am_graph.proofs.Walking.{walk_takes, walk_visits}
 
 abbrev pub no_member : Member
 no_member = record { hash = record { 0 = [] }; change = record { deps = []; actor = []; seq = 0; start = 0; time = pos 0; message = []; ops = []; extra = [] } }

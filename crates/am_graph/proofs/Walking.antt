@@ -1,5 +1,5 @@
 -- The steps of a walk from heads: V are the places that wait, and T is the table so far.
-use Rattle.std.proofs.Common.{ℕ, zero, suc, ◌≡◌, ◌+◌, ◌<◌, ◌≤◌, ◌==◌, ◌||◌, List, [], ◌∷◌, length, get_or, slice_get, map, max as larger, Bool, true, false, cond, Option, Some, None, refl, sym, ap, ◌∙◌, subst, inl, inr, ◌⊎◌, All, Contains, arith, eq-eqb}
+use Rattle.std.proofs.Common.{ℕ, zero, suc, ◌≡◌, ◌<◌, ◌≤◌, ◌==◌, ◌||◌, List, [], ◌∷◌, length, get_or, max as larger, Bool, true, false, cond, Some, refl, sym, ap, ◌∙◌, subst, inl, inr, ◌⊎◌, Contains, arith, eq-eqb}
 use Rattle.std.proofs.lemmas.Bool.{cases_Bool, both_ways, cases_order, eqb-true}
 use Rattle.std.proofs.lemmas.List.{get_or_default}
 use Rattle.std.proofs.lemmas.List.Elements.{Contains-get_or}
@@ -8,7 +8,6 @@ use Rattle.am_types.specs.Order.{hash_cmp, among}
 use Rattle.am_types.specs.Members.{Member}
 use Rattle.am_types.specs.Ancestors.{ancestors}
 use Rattle.am_types.proofs.Ancestry.{ancestors_named, ancestors_closed}
-use Rattle.am_types.proofs.DistinctIds.{ancestor_is_member}
 use Rattle.am_graph.specs.declared.reach.Reach.{Reach}
 use Rattle.am_graph.specs.Graphs.{nodes}
 use Rattle.am_graph.specs.Reaches.{number, end, unreached, reach_at, higher, Raised, Merged, IsBelow, Attained, IsTableOf}

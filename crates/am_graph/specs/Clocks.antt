@@ -1,27 +1,35 @@
 -- How far each actor's changes go among some changes.
---     changes_of A a      the changes of the actor a
---     last_seq A a        the greatest seq of these, or 0
---     last_max A a        the greatest max of these, or 0
---     Covers A id         the actor of the id has a change, and the counter is at most the greatest max of its changes
-use Rattle.std.specs.Prelude.{ℕ, ◌≡◌, ◌≤◌, List, filter, map, Contains}
+--     last_seq A x            the greatest seq of the changes of the actor x among A, or 0
+--     Covers A i              a change among A is of the actor of the id i, and its last counter isn't below that of i
+--     reach_of clock x        how far the clock goes for the actor x
+--     covers clock i          the clock goes as far as the id i
+--     IsClockOf A clock       the clock covers just what A covers, and knows the last seqs of A
+use Rattle.std.specs.Prelude.{ℕ, ◌≡◌, ◌≤◌, ◌↔◌, Bool, nat_lt, List, filter, find, map, Contains, IsTrue}
+use Rattle.std.specs.Option.{option_map_or}
 use Rattle.am_types.specs.declared.OpId.{OpId}
 use Rattle.am_types.specs.Same.{same_bytes}
 use Rattle.am_types.specs.Operations.{max}
 use Rattle.am_types.specs.Members.{Member}
 use Rattle.am_types.specs.Canonical.{largest}
-
-abbrev pub members_of : List Member → List ℕ → List Member
-members_of A actor = filter (λ m. same_bytes m.change.actor actor) A
+use Rattle.am_graph.specs.declared.reach.Reach.{Reach}
+use Rattle.am_graph.specs.Reaches.{unreached}
 
 abbrev pub last_seq : List Member → List ℕ → ℕ
-last_seq A actor = largest (map (λ m. m.change.seq) (members_of A actor))
+last_seq A x = largest (map (λ m. m.change.seq) (filter (λ m. same_bytes m.change.actor x) A))
 
-abbrev pub last_max : List Member → List ℕ → ℕ
-last_max A actor = largest (map (λ m. max m.change) (members_of A actor))
-
--- a change of the id's actor ends at or after its counter
-pub record Covers (A : List Member) (id : OpId) : Type 0 where
+pub record Covers (A : List Member) (i : OpId) : Type 0 where
   pub by : Member
   pub is_among : Contains A by
-  pub actor : by.change.actor ≡ id.actor
-  pub reaches : id.counter ≤ max by.change
+  pub actor : by.change.actor ≡ i.actor
+  pub reaches : i.counter ≤ max by.change
+
+-- a clock is a list of actors, each beside how far its changes go
+abbrev pub reach_of : List (List ℕ × Reach) → List ℕ → Reach
+reach_of clock x = option_map_or (λ e. e.1) (find (λ e. same_bytes x e.0) clock) unreached
+
+abbrev pub covers : List (List ℕ × Reach) → OpId → Bool
+covers clock i = nat_lt i.counter (reach_of clock i.actor).end
+
+pub record IsClockOf (A : List Member) (clock : List (List ℕ × Reach)) : Type 0 where
+  pub covers : (i : OpId) → IsTrue (covers clock i) ↔ Covers A i
+  pub last_seq : (x : List ℕ) → (reach_of clock x).seq ≡ last_seq A x

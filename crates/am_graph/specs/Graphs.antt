@@ -3,8 +3,9 @@
 --     nodes C           that of each member of C, beside its hash
 --     is_held g h       h is a hash of the graph
 use Rattle.std.specs.Ordering.{is_gt}
-use Rattle.std.specs.Prelude.{ℕ, ◌&&◌, ◌==◌, filter, ◌≡◌, ◌≢◌, ◌≤◌, ◌<◌, ◌+◌, ◌^◌, Bool, true, false, IsTrue, List, [], ◌∷◌, map, length, find, not, slice_index_or, All, Contains, Option, None, Some, ⊤}
+use Rattle.std.specs.Prelude.{ℕ, ◌&&◌, ◌==◌, filter, ◌≡◌, ◌≢◌, ◌≤◌, ◌<◌, ◌+◌, ◌^◌, Bool, true, false, List, [], map, length, find, not, slice_index_or, All, Contains, Option, None, Some, ⊤}
 use Rattle.std.specs.List.{list_any}
+use lib.Pointwise.{pointwise}
 use Rattle.am_types.specs.declared.Hash.{Hash}
 use Rattle.am_types.specs.declared.Change.{Change}
 use Rattle.am_types.specs.Order.{hash_cmp, among}
@@ -71,6 +72,10 @@ MatchMissing fault.NoMemory P = ⊤
 -- what the graph has of the hash
 abbrev pub find_node : List (Hash × Node) → Hash → Option Node
 find_node g h = lookup (equality.eq-value.it h) g
+
+-- the two are equal in each part
+abbrev pub same_node : Node → Node → Bool
+same_node a b = a.seq == b.seq && a.start == b.start && a.count == b.count && same_bytes a.actor b.actor && pointwise equality.eq-value.it a.deps b.deps
 
 -- what is answered to a change, beside what is held at its hash
 abbrev pub Answers : Added → Option Node → Node → Type 0

@@ -3,7 +3,7 @@
 --     first_of s a q      the hash that is kept for the author a and the seq q
 --     IsWhole s           the parts s belong together
 --     IsMarkOf s n mark   the mark is that of a change with the node n, which is about to join
-use Rattle.std.specs.Prelude.{ℕ, ◌≡◌, ◌≢◌, ◌<◌, ◌≤◌, ◌+◌, ◌^◌, ◌&&◌, ◌==◌, Bool, List, [], ◌∷◌, length, map, filter, slice_index_or, Option, Some, None, IfSome, if◌then◌else◌}
+use Rattle.std.specs.Prelude.{ℕ, ◌≡◌, ◌<◌, ◌≤◌, ◌&&◌, ◌==◌, List, [], ◌∷◌, length, map, slice_index_or, Option, Some, None, IfSome, if◌then◌else◌}
 use Rattle.std.specs.BTreeMap.{BTreeMap, get}
 use Rattle.std.specs.Ordering.{nat_cmp, ordering_then, is_gt}
 use Rattle.std.specs.declared.cmp.Ordering.{Ordering}
@@ -16,7 +16,7 @@ use Rattle.am_types.specs.Canonical.{depth}
 use Rattle.am_graph.specs.declared.node.Node.{Node}
 use Rattle.am_graph.specs.declared.parts.Mark.{Mark}
 use Rattle.am_graph.specs.declared.parts.Parts.{Parts}
-use Rattle.am_graph.specs.Graphs.{node_of, nodes, ForSet, IsSound, IsLeast, having}
+use Rattle.am_graph.specs.Graphs.{node_of, ForSet, IsSound, IsLeast, having}
 use Rattle.am_graph.specs.Reaches.{number, IsTableOf}
 
 abbrev pub pair_cmp : ℕ × ℕ → ℕ × ℕ → Ordering

@@ -3,7 +3,7 @@ ghost use Rattle.std.specs.Prelude.{◌≡◌, ◌++◌, ◌∷◌, ◌≤◌, �
 ghost use Rattle.am_types.specs.Members.{hashes, holds, heads as heads_of};
 ghost use Rattle.am_types.specs.Ancestors.{ancestors};
 ghost use Rattle.am_types.specs.Order.{hash_cmp, sorted_by, Ascends};
-ghost use Rattle.am_graph.specs.Graphs.{nodes, find_node, is_held, missing, ForSet, has, TellsAncestors, is_named_in, MatchFault, MatchMissing, Answers};
+ghost use Rattle.am_graph.specs.Graphs.{nodes, find_node, is_held, missing, ForSet, has, TellsAncestors, is_named_in, MatchFault, MatchMissing, Answers, same_node};
 ghost use Rattle.am_types.specs.declared.Hash.{Hash};
 
 use crate::fault::{Added, ClockFault, GraphFault};
@@ -65,6 +65,7 @@ impl Graph {
         requires deps_ascend { Ascends hash_cmp deps.now }
         requires start { 1 ≤ start }
         requires end { start + count ≤ 2 ^ 53 }
+        ensures added { IfOk result (λ added. Answers added (find_node self.old hash) (record { actor = actor.now; seq = seq; start = start; count = count; deps = deps.now })) }
         ensures ok { OnOk result (self.new ≡ (if is_held self.old hash then self.old else self.old ++ (hash, record { actor = actor.now; seq = seq; start = start; count = count; deps = deps.now }) ∷ [])) }
         ensures complete { OnOk result (is_held self.old hash ≡ false → missing self.old deps.now ≡ None) }
         ensures err { OnErr result (self.new ≡ self.old) }
@@ -98,17 +99,12 @@ impl Graph {
         start: u64,
         count: u64,
         deps: &[Hash],
-    ) -> Added {
+    ) -> Added
+        ensures { Answers result (find_node self.now hash.now) (record { actor = actor.now; seq = seq; start = start; count = count; deps = deps.now }) }
+    {
         match self.parts.held.get(hash) {
             None => Added::New,
-            Some(held) => {
-                let same = held.actor.as_slice() == actor.as_slice()
-                    && held.seq == seq
-                    && held.start == start
-                    && held.count == count
-                    && held.deps.as_slice() == deps;
-                if same { Added::Same } else { Added::Clash }
-            }
+            Some(held) => answer(held, actor, seq, start, count, deps),
         }
     }
 
@@ -235,4 +231,26 @@ fn listed(alloc: Global, hashes: &[Hash]) -> Result<List<Hash>, AllocError>
         list.push(*hash)?;
     }
     Ok(list)
+}
+
+/// What is answered to a change where this one is held with its hash.
+fn answer(held: &Node, actor: &ActorId, seq: u64, start: u64, count: u64, deps: &[Hash]) -> Added
+    ensures { Answers result (Some held.now) (record { actor = actor.now; seq = seq; start = start; count = count; deps = deps.now }) }
+{
+    if is_same(held, actor, seq, start, count, deps) {
+        Added::Same
+    } else {
+        Added::Clash
+    }
+}
+
+/// Whether each part is equal.
+fn is_same(held: &Node, actor: &ActorId, seq: u64, start: u64, count: u64, deps: &[Hash]) -> bool
+    ensures { result ≡ same_node held.now (record { actor = actor.now; seq = seq; start = start; count = count; deps = deps.now }) }
+{
+    held.seq == seq
+        && held.start == start
+        && held.count == count
+        && held.actor.as_slice() == actor.as_slice()
+        && held.deps.as_slice() == deps
 }

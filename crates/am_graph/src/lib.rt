@@ -1,13 +1,16 @@
 //! The graph of a set of changes: its heads, ancestors, clocks and canonical order.
 #![tactic(auto)]
 
+mod clock;
 mod fault;
+mod find;
 mod graph;
 mod node;
 mod parts;
 mod reach;
 mod walk;
 
+pub use clock::{Clock, Reached, covers_ancestors_alone};
 pub use fault::{Added, ClockFault, GraphFault};
 pub use graph::Graph;
 pub use node::Node;

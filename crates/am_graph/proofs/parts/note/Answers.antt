@@ -1,6 +1,6 @@
 use Rattle.am_graph.proofs.Noting.{noted}
 use Rattle.am_graph.specs.Whole.{first_in}
-use Rattle.std.proofs.Common.{◌≡◌, ◌∙◌, ap, cond, Some}
+use Rattle.std.proofs.Common.{◌∙◌, ap, cond, Some}
 use Rattle.am_graph.specs.Whole.{lesser, pair_cmp}
 use Rattle.std.specs.Ordering.{is_eq}
 use Rattle.am_graph.proofs.parts.note.Goals as goal

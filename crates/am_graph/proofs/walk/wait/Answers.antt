@@ -1,6 +1,6 @@
-use Rattle.std.proofs.Common.{◌≡◌, ◌∙◌, ◌≤◌, [], sym, ap, true, false, Some, arith}
-use Rattle.am_graph.specs.Graphs.{is_held, missing}
-use Rattle.am_graph.specs.Walks.{waits, is_place_of}
+use Rattle.std.proofs.Common.{◌≡◌, ◌∙◌, [], sym, true}
+use Rattle.am_graph.specs.Graphs.{is_held}
+use Rattle.am_graph.specs.Walks.{waits}
 use Rattle.am_graph.proofs.Held.{is_some-held}
 use Rattle.am_graph.proofs.Sweeping.{find_at, within_push}
 use Rattle.am_graph.proofs.Waiting.{wait_more}

@@ -1,5 +1,5 @@
 use Rattle.std.specs.Map.Iter.{deref_pair}
-use Rattle.std.proofs.Common.{option_map, ◌≤◌, ◌≡◌, ◌∙◌, ◌++◌, ◌∷◌, [], cond, ap, sym, subst, take, length, arith}
+use Rattle.std.proofs.Common.{option_map, ◌≡◌, ◌∙◌, ◌++◌, ◌∷◌, [], cond, ap, sym, subst, arith}
 use Rattle.std.proofs.lemmas.List.{take_all}
 use Rattle.am_graph.specs.Graphs.{has, ForSet, TellsAncestors}
 use Rattle.am_types.specs.Members.{hashes}

@@ -1,9 +1,8 @@
 use Rattle.std.specs.Map.Iter.{deref_pair}
-use Rattle.std.proofs.Common.{option_map, ◌≤◌, ◌≡◌, ◌∙◌, ◌++◌, ◌∷◌, [], cond, not, ap, sym, subst, take, length, arith}
+use Rattle.std.proofs.Common.{option_map, ◌≡◌, ◌∙◌, ◌++◌, ◌∷◌, [], cond, not, ap, sym, subst, arith}
 use Rattle.std.proofs.lemmas.List.{take_all}
 use Rattle.am_graph.specs.Graphs.{has, is_named_in, ForSet}
 use Rattle.am_types.specs.Members.{heads}
-use Rattle.am_types.specs.declared.Hash.{Hash}
 use Rattle.am_graph.proofs.Found.{wanted_among, wanted_push}
 use Rattle.am_graph.proofs.Named.{heads_are}
 use Rattle.am_graph.proofs.graph.Graph.heads.Goals as goal

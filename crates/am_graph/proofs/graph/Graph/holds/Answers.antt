@@ -1,4 +1,4 @@
-use Rattle.std.proofs.Common.{◌≡◌, ◌∙◌, ap}
+use Rattle.std.proofs.Common.{◌∙◌, ap}
 use Rattle.am_graph.proofs.Held.{is_some-held, held_of_set}
 use Rattle.am_graph.specs.Graphs.{is_held}
 use Rattle.am_graph.proofs.graph.Graph.holds.Goals as goal

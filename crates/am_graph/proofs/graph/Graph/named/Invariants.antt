@@ -1,7 +1,5 @@
-use Rattle.std.proofs.Common.{◌≡◌, ◌<◌, length, take}
-use Rattle.std.specs.Prelude.{slice_index_or}
+use Rattle.std.proofs.Common.{◌≡◌, take}
 use Rattle.am_types.specs.declared.Hash.{Hash}
-use Rattle.am_graph.specs.declared.node.Node.{Node}
 use Rattle.am_graph.specs.Graphs.{has, is_named_in}
 use Rattle.am_graph.proofs.Named.{Gathered}
 use Rattle.am_graph.proofs.graph.Graph.named.Given as goal

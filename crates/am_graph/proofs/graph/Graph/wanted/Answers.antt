@@ -1,5 +1,5 @@
 use Rattle.std.specs.Prelude.{slice_index_or}
-use Rattle.std.proofs.Common.{◌≤◌, ◌<◌, ◌≡◌, ◌∙◌, ◌-◌, [], ap, sym, subst, true, false, Some, arith}
+use Rattle.std.proofs.Common.{◌≡◌, ◌∙◌, ◌-◌, [], sym, subst, Some, arith}
 use Rattle.std.proofs.lemmas.Option.{get_or_from_slice_get}
 use Rattle.am_graph.specs.Graphs.{has, is_held, missing, TellsAncestors}
 use Rattle.am_graph.proofs.Held.{is_some-held}

@@ -1,9 +1,8 @@
-use Rattle.std.proofs.Common.{ℕ, ◌≡◌, ◌∙◌, ◌+◌, ◌≤◌, ◌<◌, max as larger, [], length, get_or, ap, sym, Some, true, refl, arith}
+use Rattle.std.proofs.Common.{◌≡◌, ◌∙◌, ◌+◌, max as larger, [], get_or, sym, Some, arith}
 use Rattle.std.specs.List.{position}
 use Rattle.std.specs.Map.{keys_of}
 use Rattle.am_types.specs.contracts.hash.HashPartialEq.TheImpl as equality
 use Rattle.am_types.specs.declared.Hash.{Hash}
-use Rattle.am_graph.specs.Graphs.{is_held}
 use Rattle.am_graph.specs.Whole.{authors_of, first_in}
 use Rattle.am_graph.proofs.Deepest.{max_is, place_low, depth_low, deeper, deepest_all}
 use Rattle.am_graph.proofs.Held.{is_some-held}

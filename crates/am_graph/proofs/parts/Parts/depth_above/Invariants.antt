@@ -1,4 +1,4 @@
-use Rattle.std.proofs.Common.{ℕ, ◌≡◌, ◌≤◌, length, take}
+use Rattle.std.proofs.Common.{◌≤◌, length, take}
 use Rattle.am_graph.specs.Graphs.{ForSet}
 use Rattle.am_graph.proofs.Deepest.{IsDeepest}
 use Rattle.am_graph.proofs.parts.Parts.depth_above.Given as goal

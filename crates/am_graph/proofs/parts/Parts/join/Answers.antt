@@ -1,10 +1,9 @@
-use Rattle.std.proofs.Common.{ℕ, ◌≡◌, ◌∙◌, ◌++◌, ◌∷◌, [], ap, sym, subst, List, Some}
+use Rattle.std.proofs.Common.{ℕ, ◌≡◌, ◌∙◌, ◌++◌, ◌∷◌, [], ap, sym, subst, List}
 use Rattle.std.specs.BTreeMap.{is_at}
 use Rattle.std.specs.Map.{lookup}
 use Rattle.am_types.specs.declared.Hash.{Hash}
 use Rattle.am_types.specs.contracts.hash.HashPartialEq.TheImpl as equality
 use Rattle.indexmap.specs.IndexMap.{insert_entry}
-use Rattle.am_graph.specs.declared.node.Node.{Node}
 use Rattle.am_graph.specs.Whole.{WholeOf, authors_of, first_in, pair_cmp}
 use Rattle.am_graph.proofs.Growing.{whole_joined}
 use Rattle.am_graph.proofs.Held.{entries_pushed}

@@ -1,12 +1,11 @@
-use Rattle.std.proofs.Common.{ℕ, ◌≡◌, ◌∙◌, ◌+◌, ◌≤◌, ◌<◌, ◌||◌, ◌++◌, List, length, take, drop, cond, ap, sym, subst, Bool, true, false, inl, inr, refl, arith}
+use Rattle.std.proofs.Common.{ℕ, ◌≡◌, ◌∙◌, ◌<◌, ◌||◌, ◌++◌, length, take, drop, cond, ap, sym, subst, true, false, inl, inr, refl, arith}
 use Rattle.std.proofs.lemmas.Bool.{cases_Bool, both_ways}
 use Rattle.std.proofs.lemmas.List.{length-replicate}
 use Rattle.std.specs.BTreeMap.{is_at}
 use Rattle.std.specs.List.{list_any}
 use Rattle.std.proofs.lemmas.List.Folds.{Any-from_list_any}
 use Rattle.std.specs.Ordering.{is_eq, nat_cmp}
-use Rattle.am_graph.specs.declared.reach.Reach.{Reach}
-use Rattle.am_graph.specs.Graphs.{nodes, IsSound}
+use Rattle.am_graph.specs.Graphs.{IsSound}
 use Rattle.am_graph.specs.Reaches.{reach_at, unreached}
 use Rattle.am_graph.specs.Whole.{authors_of}
 use Rattle.am_graph.specs.Walks.{waits, is_place_of, Walk}

@@ -1,7 +1,6 @@
 use Rattle.std.specs.Map.Iter.{deref_pair}
-use Rattle.std.proofs.Common.{ℕ, ◌≡◌, ◌∙◌, ◌+◌, ◌≤◌, ◌<◌, ◌^◌, ◌||◌, ◌∷◌, [], option_map, slice_get, get_or, ap, sym, subst, Some, inl, inr, length, refl, arith}
+use Rattle.std.proofs.Common.{◌≡◌, ◌∙◌, ◌+◌, ◌≤◌, ◌<◌, ◌^◌, ◌||◌, ◌∷◌, [], option_map, get_or, ap, sym, subst, inl, inr, length, refl, arith}
 use Rattle.std.specs.Option.{IfSome}
-use Rattle.std.specs.Result.{OnOk}
 use Rattle.std.proofs.lemmas.Bool.{or_cases}
 use Rattle.std.proofs.lemmas.Option.{get_or_from_slice_get}
 use Rattle.am_types.specs.declared.Hash.{Hash}
@@ -11,7 +10,7 @@ use Rattle.am_graph.specs.declared.node.Node.{Node}
 use Rattle.am_graph.specs.Graphs.{ForSet, missing}
 use Rattle.am_graph.specs.Reaches.{IsTableOf, Merged}
 use Rattle.am_graph.specs.Whole.{authors_of, first_in}
-use Rattle.am_graph.specs.Walks.{waits, is_place_of, Visits, WaitBefore}
+use Rattle.am_graph.specs.Walks.{waits, is_place_of}
 use Rattle.am_graph.proofs.Growing.{length_nodes}
 use Rattle.am_graph.proofs.Visiting.{on_ok, no_member, none_missing, only_memory, deps_held, deps_before, ends_low, author_low, visit_kept, visit_own}
 use Rattle.am_graph.proofs.parts.Parts.visit.Goals as goal

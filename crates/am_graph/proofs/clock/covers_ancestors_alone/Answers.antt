@@ -1,0 +1,6 @@
+use Rattle.am_graph.proofs.Covered.{covered_is_ancestor, ancestor_is_covered}
+use Rattle.am_graph.proofs.ValidFacts.{valid_facts}
+use Rattle.am_graph.proofs.clock.covers_ancestors_alone.Goals as goal
+
+pub returns : goal.returns
+returns c C v hs m cm x cx = (covered_is_ancestor C (valid_facts C v) hs m x cm cx, λ a. ancestor_is_covered C (valid_facts C v) hs m x a cx)

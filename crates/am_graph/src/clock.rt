@@ -1,0 +1,130 @@
+//! Clocks: how far each actor's changes go among some changes.
+ghost use Rattle.std.specs.Prelude.{◌≡◌, ◌↔◌, List, ℕ, All, Contains, IfOk, OnOk, IfErr, IsTrue, Some, map, true};
+ghost use Rattle.std.specs.List.{zip};
+ghost use Rattle.am_types.specs.Ancestors.{ancestors};
+ghost use Rattle.am_types.specs.Members.{Member};
+ghost use Rattle.am_types.specs.Operations.{Operation, operations};
+ghost use Rattle.am_types.specs.ValidSets.{Valid};
+ghost use Rattle.am_types.specs.Views.{id_of};
+ghost use Rattle.am_types.specs.declared.Hash.{Hash};
+ghost use Rattle.am_graph.specs.Clocks.{Covers, IsClockOf, covers, reach_of};
+ghost use Rattle.am_graph.specs.Graphs.{is_held, missing, ForSet, MatchFault};
+
+use crate::fault::ClockFault;
+use crate::graph::Graph;
+use crate::reach::Reach;
+use am_types::{Hash, IdRef};
+use indexmap::IndexSet;
+use std::alloc::Global;
+use std::marker::Model;
+
+/// How far each actor's changes go among some changes. Contracts see it as the list of the actors, each beside how far
+/// its changes go.
+#[derive(Drop)]
+pub struct Clock {
+    authors: IndexSet<Vec<u8>>,
+    table: Vec<Reach>,
+}
+
+impl Model for Clock {
+    ghost use Rattle.std.specs.Prelude.{List, ℕ, map};
+    ghost use Rattle.std.specs.List.{zip};
+    ghost use Rattle.am_graph.specs.declared.reach.Reach.{Reach};
+
+    ghost Value = { List (List ℕ × Reach) };
+
+    ghost view = { λ c. zip (map (λ v. v.items) c.authors.keys) c.table.items };
+}
+
+/// A [`Clock`] over the actors of a graph, which are not copied.
+#[derive(Drop)]
+pub struct Reached<'a> {
+    authors: &'a IndexSet<Vec<u8>>,
+    table: Vec<Reach>,
+}
+
+impl<'a> Model for Reached<'a> {
+    ghost use Rattle.std.specs.Prelude.{List, ℕ, map};
+    ghost use Rattle.std.specs.List.{zip};
+    ghost use Rattle.am_graph.specs.declared.reach.Reach.{Reach};
+
+    ghost Value = { List (List ℕ × Reach) };
+
+    ghost view = { λ c. zip (map (λ v. v.items) c.authors.now.keys) c.table.items };
+}
+
+impl Graph {
+    /// How far each actor's changes go among the ancestors of these heads.
+    pub fn clock(&self, alloc: Global, heads: &[Hash]) -> Result<Clock, ClockFault>
+        ensures ok { IfOk result (λ clock. ForSet self.now (λ C. IsClockOf (ancestors C heads.now) clock)) }
+        ensures held { OnOk result (All (λ h. is_held self.now h ≡ true) heads.now) }
+        ensures unknown { IfErr result (λ fault. MatchFault fault (λ h. missing self.now heads.now ≡ Some h)) }
+    {
+        let table = self.parts.table(alloc, heads)?;
+        let authors = self.parts.authors.clone()?;
+        Ok(Clock { authors, table })
+    }
+
+    /// How far each actor's changes go among the ancestors of these heads, while the graph is lent.
+    pub fn reached(&self, alloc: Global, heads: &[Hash]) -> Result<Reached<'_>, ClockFault>
+        ensures ok { IfOk result (λ clock. ForSet self.now (λ C. IsClockOf (ancestors C heads.now) clock)) }
+        ensures held { OnOk result (All (λ h. is_held self.now h ≡ true) heads.now) }
+        ensures unknown { IfErr result (λ fault. MatchFault fault (λ h. missing self.now heads.now ≡ Some h)) }
+    {
+        let table = self.parts.table(alloc, heads)?;
+        Ok(Reached {
+            authors: &self.parts.authors,
+            table,
+        })
+    }
+}
+
+impl Clock {
+    /// Whether the actor of the id has a change, and the counter is at most the greatest of its changes' last counters.
+    pub fn covers(&self, id: IdRef<'_>) -> bool
+        ensures { result ≡ covers self.now (id_of id.entry) }
+    {
+        id.counter < reach_of(&self.authors, self.table.as_slice(), id.actor).end
+    }
+
+    /// The greatest seq of the actor's changes, or 0 where there is none.
+    pub fn last_seq(&self, actor: &[u8]) -> u64
+        ensures { result ≡ (reach_of self.now actor.now).seq }
+    {
+        reach_of(&self.authors, self.table.as_slice(), actor).seq
+    }
+}
+
+impl<'a> Reached<'a> {
+    /// Whether the actor of the id has a change, and the counter is at most the greatest of its changes' last counters.
+    pub fn covers(&self, id: IdRef<'_>) -> bool
+        ensures { result ≡ covers self.now (id_of id.entry) }
+    {
+        id.counter < reach_of(self.authors, self.table.as_slice(), id.actor).end
+    }
+
+    /// The greatest seq of the actor's changes, or 0 where there is none.
+    pub fn last_seq(&self, actor: &[u8]) -> u64
+        ensures { result ≡ (reach_of self.now actor.now).seq }
+    {
+        reach_of(self.authors, self.table.as_slice(), actor).seq
+    }
+}
+
+/// How far the table goes for the actor.
+fn reach_of(authors: &IndexSet<Vec<u8>>, table: &[Reach], actor: &[u8]) -> Reach
+    ensures { result ≡ reach_of (zip (map (λ v. v.items) authors.now.keys) table.now) actor.now }
+{
+    if let Some(author) = authors.get_index_of(actor) {
+        if author < table.len() {
+            return table[author];
+        }
+    }
+    Reach { seq: 0, end: 0 }
+}
+
+/// In a valid set a clock of the ancestors of some heads covers an operation's id exactly where its change is one of
+/// these ancestors.
+pub fn covers_ancestors_alone()
+    ensures { (C : List Member) → Valid C → (hs : List Hash) → (m : Member) → Contains C m → (x : Operation) → Contains (operations m.change) x → Covers (ancestors C hs) x.id ↔ Contains (ancestors C hs) m }
+{}
