@@ -4,3 +4,4 @@ pub mod SignedLaws
 pub mod Answering
 pub mod SignedAnswering
 pub mod Completion
+pub mod OneByte

@@ -1,4 +1,4 @@
-use Rattle.std.specs.Prelude.{ℕ, ◌+◌, ◌*◌, ◌^◌, ◌%◌, List, [], ◌∷◌, length, take, nat_lt, true, false, suc, zero, Option, Some, None, Result, Ok, Err, if◌then◌else◌, Bool, ℤ, pos, negsuc}
+use Rattle.std.specs.Prelude.{ℕ, ◌+◌, ◌*◌, ◌^◌, ◌%◌, ◌-◌, List, [], ◌∷◌, length, take, nat_lt, true, false, suc, zero, Option, Some, None, Result, Ok, Err, if◌then◌else◌, Bool, ℤ, pos, negsuc}
 use Rattle.am_leb.specs.declared.fault.LebFault.{LebFault}
 use Rattle.am_leb.specs.declared.fault.LebFault.TheVariants.{Short, Long, Large}
 use Rattle.am_leb.specs.Leb.{unsigned_value, uleb, seven_bits, ends_negative, leb}
@@ -46,3 +46,7 @@ signed_at bytes (Some len) = judged_signed (ends_negative (take len bytes)) (mag
 -- the signed number that stands first, and its length
 unfoldable pub first_signed : List ℕ → Result (ℤ × ℕ) LebFault
 first_signed bytes = signed_at bytes (end_within 10 bytes)
+
+-- the number that one byte spells
+abbrev pub low_value : ℕ → ℤ
+low_value b = if nat_lt b 64 then pos b else negsuc (127 - b)

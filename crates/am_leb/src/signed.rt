@@ -2,10 +2,10 @@
 ghost use Rattle.std.specs.Prelude.{◌≡◌, ◌<◌, ◌≤◌, ◌^◌, ◌++◌, ◌↔◌, ◌⊎◌, ℕ, ℤ, pos, List, length, take, All, IfOk, OnOk, OnErr, FitsSigned};
 ghost use Rattle.std.specs.Int.{w64};
 ghost use Rattle.am_leb.specs.Leb.{leb, signed_value, ends_negative, seven_bits, IsLeb, BeginsWith};
-ghost use Rattle.am_leb.specs.Reading.{first_signed, digit, magnitude, from_magnitude};
+ghost use Rattle.am_leb.specs.Reading.{first_signed, digit, magnitude, from_magnitude, low_value};
 
 use crate::fault::LebFault;
-use crate::spelling::end_of;
+use crate::spelling::{end_of, low_byte};
 use std::alloc::AllocError;
 
 fn digit_of(byte: u8, negative: bool) -> u8
@@ -73,7 +73,32 @@ fn signed_number_at(bytes: &[u8]) -> Result<(i64, usize), LebFault>
     }
 }
 
+// The number of one byte.
+#[inline(always)]
+fn low_number(low: u8) -> i64
+    requires { low < 128 }
+    ensures { result ≡ low_value low }
+{
+    if low < 64 {
+        i64::from(low)
+    } else {
+        i64::from(low) - 128
+    }
+}
+
+// The same, with numbers of one byte read at once.
+#[inline(always)]
+fn first_number(bytes: &[u8]) -> Result<(i64, usize), LebFault>
+    ensures { result ≡ first_signed bytes.now }
+{
+    match low_byte(bytes) {
+        Some(low) => Ok((low_number(low), 1)),
+        None => signed_number_at(bytes),
+    }
+}
+
 /// The signed number that stands first in the bytes, and how many bytes it takes there.
+#[inline(always)]
 pub fn read_i(bytes: &[u8]) -> Result<(i64, usize), LebFault>
     ensures found { IfOk result (λ r. FitsSigned w64 r.0 × (r.1 ≤ length bytes.now) × IsLeb (take r.1 bytes.now) r.0) }
     ensures only { (n : ℤ) (rest : List ℕ) → FitsSigned w64 n → bytes.now ≡ leb n ++ rest → result ≡ Ok (n, length (leb n)) }
@@ -84,7 +109,7 @@ pub fn read_i(bytes: &[u8]) -> Result<(i64, usize), LebFault>
     // The same as one function of the bytes, for the crates whose definitions read numbers.
     ensures exact { result ≡ first_signed bytes.now }
 {
-    signed_number_at(bytes)
+    first_number(bytes)
 }
 
 // The low bits of one byte of a spelling.

@@ -1,5 +1,5 @@
 //! Where a spelling ends.
-ghost use Rattle.std.specs.Prelude.{◌≡◌};
+ghost use Rattle.std.specs.Prelude.{◌≡◌, ◌<◌, ◌∷◌, drop, IfSome};
 ghost use Rattle.am_leb.specs.Reading.{end_within};
 
 // The length of the spelling that begins the bytes, if it ends within ten.
@@ -13,4 +13,16 @@ pub fn end_of(bytes: &[u8]) -> Option<usize>
         }
     }
     None
+}
+
+// The byte that begins the bytes, where it is a whole spelling.
+#[inline(always)]
+pub fn low_byte(bytes: &[u8]) -> Option<u8>
+    ensures { IfSome result (λ b. (b < 128) × (bytes.now ≡ b ∷ drop 1 bytes.now)) }
+{
+    if bytes.is_empty() {
+        return None;
+    }
+    let first = bytes[0];
+    if first < 128 { Some(first) } else { None }
 }

@@ -4,7 +4,7 @@ ghost use Rattle.am_leb.specs.Leb.{uleb, unsigned_value, IsHigh, IsUleb, BeginsW
 ghost use Rattle.am_leb.specs.Reading.{first_unsigned};
 
 use crate::fault::LebFault;
-use crate::spelling::end_of;
+use crate::spelling::{end_of, low_byte};
 use std::alloc::AllocError;
 
 fn unsigned_of(spelling: &[u8]) -> u128
@@ -53,7 +53,19 @@ fn number_at(bytes: &[u8]) -> Result<(u64, usize), LebFault>
     }
 }
 
+// The same, with numbers of one byte read at once.
+#[inline(always)]
+fn first_number(bytes: &[u8]) -> Result<(u64, usize), LebFault>
+    ensures { result ≡ first_unsigned bytes.now }
+{
+    match low_byte(bytes) {
+        Some(low) => Ok((u64::from(low), 1)),
+        None => number_at(bytes),
+    }
+}
+
 /// The unsigned number that stands first in the bytes, and how many bytes it takes there.
+#[inline(always)]
 pub fn read_u(bytes: &[u8]) -> Result<(u64, usize), LebFault>
     ensures found { IfOk result (λ r. (r.0 < 2 ^ 64) × (r.1 ≤ length bytes.now) × IsUleb (take r.1 bytes.now) r.0) }
     ensures only { (n : ℕ) (rest : List ℕ) → n < 2 ^ 64 → bytes.now ≡ uleb n ++ rest → result ≡ Ok (n, length (uleb n)) }
@@ -64,7 +76,7 @@ pub fn read_u(bytes: &[u8]) -> Result<(u64, usize), LebFault>
     // The same as one function of the bytes, for the crates whose definitions read numbers.
     ensures exact { result ≡ first_unsigned bytes.now }
 {
-    number_at(bytes)
+    first_number(bytes)
 }
 
 /// Appends the shortest spelling, all of it or, without memory, nothing.
