@@ -3,9 +3,9 @@ ghost use Rattle.std.specs.Prelude.{◌≡◌, ◌++◌, ◌∷◌, [], OnOk, If
 ghost use Rattle.sha2.specs.Sha256.{sha256};
 ghost use Rattle.am_frame.specs.Frames.{chunk_of, covered};
 ghost use Rattle.am_cli.specs.Script.{newline};
-ghost use Rattle.am_cli.specs.Machine.{Lists, chunk_line, kind_word, bad_frame};
+ghost use Rattle.am_cli.specs.Machine.{Lists, chunk_line, kind_word, bad_chunk, refused};
 
-use am_frame::{Frame, next_frame};
+use am_frame::{Frame, FrameFault, next_frame};
 use am_types::{Hash, Text};
 use std::alloc::{AllocError, Global};
 
@@ -27,10 +27,27 @@ fn push_line(alloc: Global, lines: &mut String, frame: &Frame<'_>) -> Result<(),
     write!(lines, "{word} {count} {hash}\n")
 }
 
-fn bad(alloc: Global, number: u64) -> Result<Text, AllocError>
-    ensures { IfOk result (λ reply. reply ≡ bad_frame number) }
+fn bad(alloc: Global, word: &str, number: u64) -> Result<Text, AllocError>
+    ensures { IfOk result (λ reply. reply ≡ refused (word.now ++ codes " chunk " ++ decimal number)) }
 {
-    Ok(Text::from(format!(in alloc; "refused bad-frame chunk {number}\n")?))
+    Ok(Text::from(format!(in alloc; "refused {word} chunk {number}\n")?))
+}
+
+// The reply where a chunk is bad.
+fn bad_chunk(alloc: Global, fault: FrameFault, number: u64) -> Result<Text, AllocError>
+    ensures { IfOk result (λ reply. reply ≡ bad_chunk fault number) }
+{
+    match fault {
+        FrameFault::BadMagic => bad(alloc, "bad-magic", number),
+        FrameFault::Truncated => bad(alloc, "truncated", number),
+        FrameFault::BadLength => bad(alloc, "bad-length", number),
+        FrameFault::BadChecksum => bad(alloc, "bad-checksum", number),
+        FrameFault::ChunkType(kind) => {
+            let word = format!(in alloc; "chunk-type {kind}")?;
+            bad(alloc, word.as_str(), number)
+        }
+        FrameFault::CompressedChunk => bad(alloc, "compressed-chunk", number),
+    }
 }
 
 fn whole(alloc: Global, count: u64, lines: &str) -> Result<Text, AllocError>
@@ -39,7 +56,7 @@ fn whole(alloc: Global, count: u64, lines: &str) -> Result<Text, AllocError>
     Ok(Text::from(format!(in alloc; "ok {count}\n{lines}")?))
 }
 
-/// The type, the length and the hash of each chunk of a file, or the number of the first that is bad.
+/// The type, the length and the hash of each chunk of a file, or the number of the first that is bad and what is wrong with it.
 pub fn list_frames(alloc: Global, bytes: &[u8]) -> Result<Text, AllocError>
     ensures { IfOk result (λ reply. Lists (Some bytes.now) reply) }
 {
@@ -47,8 +64,9 @@ pub fn list_frames(alloc: Global, bytes: &[u8]) -> Result<Text, AllocError>
     let mut rest = bytes;
     let mut count = 0u64;
     'chunks: while !rest.is_empty() {
-        let Ok(frame) = next_frame(rest) else {
-            return bad(alloc, count + 1);
+        let frame = match next_frame(rest) {
+            Ok(frame) => frame,
+            Err(fault) => return bad_chunk(alloc, fault, count + 1),
         };
         push_line(alloc, &mut lines, &frame)?;
         rest = frame.rest;
