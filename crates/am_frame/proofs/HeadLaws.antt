@@ -1,5 +1,5 @@
 -- Heads of frames that are cut off or bad.
-use Rattle.std.proofs.Common.{◌≡◌, ◌≢◌, ℕ, zero, suc, ◌+◌, ◌-◌, ◌<◌, ◌≤◌, ◌^◌, List, [], ◌∷◌, ◌++◌, length, take, drop, get_or, true, false, refl, sym, ap, subst, ◌∙◌, arith, append_assoc, append-nil, length-append, Option, Some, None, Result, Ok, Err, Bool, nat_lt}
+use Rattle.std.proofs.Common.{◌≡◌, ◌≢◌, ℕ, suc, ◌-◌, ◌<◌, ◌≤◌, ◌^◌, List, [], ◌∷◌, ◌++◌, length, take, drop, get_or, true, false, refl, sym, ap, subst, ◌∙◌, arith, append_assoc, length-append, Some, None, Result, Ok, Err, nat_lt}
 use Rattle.std.specs.Prelude.{All}
 use Rattle.std.proofs.lemmas.Bool.Decides.{nat_tests}
 use Rattle.std.proofs.lemmas.List.{take-append-drop, take_all, length-replicate, length-drop, take-append-le}
@@ -7,10 +7,10 @@ use Rattle.std.proofs.Math.ListN.{replicate}
 use Rattle.am_leb.specs.Leb.{uleb, IsHigh, unsigned_value}
 use Rattle.am_leb.specs.Reading.{first_unsigned, unsigned_at, judged, end_within}
 use Rattle.am_leb.specs.declared.LebFault.{LebFault}
-use Rattle.am_leb.specs.declared.LebFault.TheVariants.{Short, Long, Large}
+use Rattle.am_leb.specs.declared.LebFault.TheVariants.{Short}
 use Rattle.am_leb.proofs.Ends.{end_within-front}
 use Rattle.am_leb.proofs.Answering.{only, high, high_only}
-use Rattle.am_frame.specs.Frames.{magic, sized, covered, frame_with, IsCut}
+use Rattle.am_frame.specs.Frames.{magic, covered}
 use Rattle.am_frame.specs.Faults.{IsBadMagic, IsTruncated, IsBadLength, BeginsNoNumber}
 use Rattle.am_frame.specs.Heads.{IsShort}
 

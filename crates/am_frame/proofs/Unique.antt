@@ -1,5 +1,5 @@
 -- Bytes are the frames of chunks in one way at most.
-use Rattle.std.proofs.Common.{◌≡◌, ℕ, suc, ◌+◌, ◌<◌, List, [], ◌∷◌, ◌++◌, length, refl, sym, ap, subst, ◌∙◌, arith, append_assoc, append-nil}
+use Rattle.std.proofs.Common.{◌≡◌, ℕ, suc, ◌+◌, List, [], ◌∷◌, ◌++◌, length, refl, sym, ap, subst, ◌∙◌, arith, append_assoc, append-nil}
 use Rattle.std.specs.Prelude.{All, flat_map}
 use Rattle.am_frame.specs.Frames.{Chunk, IsChunk, chunk_bytes, IsFile}
 use Rattle.am_frame.specs.Faults.{HasFault, FirstBad}

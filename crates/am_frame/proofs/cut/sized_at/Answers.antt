@@ -1,4 +1,4 @@
-use Rattle.std.proofs.Common.{◌≡◌, ◌<◌, ℕ, Err, take, length, arith, rules, sym, ap, ◌∙◌, ◌++◌, ◌∷◌, []}
+use Rattle.std.proofs.Common.{◌≡◌, ◌<◌, Err, take, length, arith, rules, sym, ◌∙◌, ◌++◌, ◌∷◌, []}
 use Rattle.am_leb.specs.declared.LebFault.TheVariants.{Short, Long, Large}
 use Rattle.am_frame.proofs.Parts.{cut_parts}
 use Rattle.am_frame.proofs.HeadLaws.{is_high, short_number, short_rest, no_number}
