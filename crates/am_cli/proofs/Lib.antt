@@ -1,6 +1,7 @@
 pub mod Lines
 pub mod OneRun
 pub mod Plans
+pub mod Present
 pub mod Reading
 pub mod Source
 pub mod Steps

@@ -1,7 +1,9 @@
 -- Where files are told, the machine gives one reply to a command, and one list of replies to a script.
-use Rattle.std.proofs.Common.{◌≡◌, ℕ, List, [], ◌∷◌, length, Bool, Option, Some, None, Ok, Err, refl, sym, ap, subst, ◌∙◌, inl, inr, ◌⊎◌, arith}
+use Rattle.std.proofs.Common.{◌≡◌, ℕ, List, [], ◌∷◌, length, Bool, Option, Some, None, Ok, Err, refl, sym, ap, subst, ◌∙◌, inl, inr, arith}
 use Rattle.am_outside.specs.Files.{Files, Stands}
-use Rattle.am_frame.specs.Frames.{Chunk, IsFile, FirstBad}
+use Rattle.am_frame.specs.Frames.{Chunk, IsFile}
+use Rattle.am_frame.specs.Faults.{FirstBad}
+use Rattle.am_frame.specs.declared.FrameFault.{FrameFault}
 use Rattle.am_cli.specs.Script.{Asked}
 use Rattle.am_cli.specs.Machine.{State, state, Answers, Runs, Lists, listing, bad_chunk, left_after}
 use Rattle.am_cli.specs.declared.command.Command.TheVariants.{Frames}
@@ -10,8 +12,8 @@ use Rattle.am_cli.specs.declared.command.LineFault.TheVariants.{Syntax}
 -- bytes are a file of chunks in one way, as am_frame says
 pub record OneReading : Type 0 where
   pub file : (bytes : List ℕ) (chunks others : List Chunk) → IsFile bytes chunks → IsFile bytes others → chunks ≡ others
-  pub bad : (bytes : List ℕ) (j k : ℕ) → FirstBad bytes j → FirstBad bytes k → j ≡ k
-  pub never_both : (bytes : List ℕ) (chunks : List Chunk) (k : ℕ) → IsFile bytes chunks → FirstBad bytes k → ⊥
+  pub bad : (bytes : List ℕ) (j k : ℕ) (fault other : FrameFault) → FirstBad bytes j fault → FirstBad bytes k other → (j ≡ k) × (fault ≡ other)
+  pub never_both : (bytes : List ℕ) (chunks : List Chunk) (k : ℕ) (fault : FrameFault) → IsFile bytes chunks → FirstBad bytes k fault → ⊥
 
 one_listing : OneReading → (file other : Option (List ℕ)) (r s : List ℕ) → file ≡ other → Lists file r → Lists other s → r ≡ s
 one_listing law None None r s e p q = p ∙ sym q

@@ -1,7 +1,8 @@
 //! One command: its reply, and what it does.
-ghost use Rattle.std.specs.Prelude.{◌≡◌, ◌≤◌, IfOk, IsErrOf, IsTrue};
+ghost use Rattle.std.specs.Prelude.{◌≡◌, ◌≤◌, ℕ, List, Option, IfOk, IsErrOf, IsTrue};
 ghost use Rattle.am_outside.specs.Counts.{Rose};
-ghost use Rattle.am_cli.specs.Machine.{Answers, state, refused, is_absent, names_file, kept_file};
+ghost use Rattle.am_outside.specs.Files.{Stands};
+ghost use Rattle.am_cli.specs.Machine.{Answers, Lists, state, refused, is_absent, names_file, kept_file};
 ghost use Rattle.am_cli.specs.Ends.{FilesStay};
 
 use crate::command::{Command, LineFault};
@@ -15,6 +16,24 @@ fn refusal(alloc: Global, why: &str) -> Result<Text, AllocError>
     ensures { IfOk result (λ reply. reply ≡ refused why.now) }
 {
     Ok(Text::from(format!(in alloc; "refused {why}\n")?))
+}
+
+// The reply to frames.
+#[tactic(auto, using(crate::proofs::Present::listing_is_there))]
+fn frames<F: Folder>(alloc: Global, name: &str, files: &mut F) -> Result<Text, Stop>
+    ensures listed { IfOk result (λ reply. (found : Option (List ℕ)) × Stands (F.files files.old) name.now found × Lists found reply) }
+    ensures same { F.files files.new ≡ F.files files.old }
+    ensures absent { IfOk result (λ reply. IsTrue (is_absent reply) → Rose (F.misses files.old) (F.misses files.new)) }
+    ensures misses { F.misses files.old ≤ F.misses files.new }
+    ensures faults { F.faults files.old ≤ F.faults files.new }
+    ensures failed { IsErrOf result Stop.File → Rose (F.faults files.old) (F.faults files.new) }
+{
+    match files.fetch(alloc, name) {
+        Ok(bytes) => Ok(list_frames(alloc, &bytes)?),
+        Err(FetchFault::Absent) => Ok(refusal(alloc, "absent")?),
+        Err(FetchFault::Failed) => Err(Stop::File),
+        Err(FetchFault::NoMemory) => Err(Stop::NoMemory),
+    }
 }
 
 /// The reply to what a line asks for.
@@ -35,11 +54,6 @@ pub fn answer<F: Folder>(
 {
     match asked {
         Err(LineFault::Syntax) => Ok(refusal(alloc, "syntax")?),
-        Ok(Command::Frames(name)) => match files.fetch(alloc, name.as_str()) {
-            Ok(bytes) => Ok(list_frames(alloc, &bytes)?),
-            Err(FetchFault::Absent) => Ok(refusal(alloc, "absent")?),
-            Err(FetchFault::Failed) => Err(Stop::File),
-            Err(FetchFault::NoMemory) => Err(Stop::NoMemory),
-        },
+        Ok(Command::Frames(name)) => frames(alloc, name.as_str(), files),
     }
 }
