@@ -1,4 +1,7 @@
+pub mod Ascending
+pub mod Delivering
 pub mod Lines
+pub mod LineWords
 pub mod OneRun
 pub mod Plans
 pub mod Present
