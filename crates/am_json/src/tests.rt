@@ -1,0 +1,2 @@
+//! Texts of small documents.
+use crate::*;
