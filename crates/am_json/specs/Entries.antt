@@ -9,7 +9,9 @@
 use Rattle.std.specs.Prelude.{Bool, true, false, not, ◌&&◌, ◌||◌, List, [], ◌∷◌, filter, map, IsTrue}
 use Rattle.std.specs.List.{list_all}
 use Rattle.std.specs.Ordering.{is_le, is_lt}
-use Rattle.am_types.specs.Records.{ObjId, Key, Entry}
+use Rattle.am_types.specs.declared.ObjId.{ObjId}
+use Rattle.am_types.specs.declared.Key.{Key}
+use Rattle.am_types.specs.declared.Entry.{Entry}
 use Rattle.am_types.specs.Order.{id_cmp, object_cmp}
 use Rattle.am_types.specs.Same.{same_object, same_key}
 

@@ -5,14 +5,20 @@
 --     slot_data form f s    what the slot s shows: its winner, or the pairs ["ID",VALUE] of all its entries
 --     object_of form a f ss what an object shows that the action a made, of its slots ss
 --     json_data form es     what the entries es show, from the root
-use Rattle.std.specs.Prelude.{ℕ, zero, suc, ◌==◌, ◌&&◌, Bool, true, false, ℤ, pos, negsuc, int_le, nat_lt, ◌^◌, ◌-◌, List, [], ◌∷◌, ◌++◌, length, map, filter, Option, Some, None, if◌then◌else◌, codes, flat_map, fold, decimal, unwrap_or}
+use Rattle.std.specs.Prelude.{ℕ, zero, suc, ◌==◌, ◌&&◌, ◌||◌, Bool, true, false, ℤ, pos, negsuc, int_le, nat_lt, ◌^◌, ◌-◌, List, [], ◌∷◌, ◌++◌, length, map, filter, Option, Some, None, if◌then◌else◌, codes, flat_map, fold, decimal, unwrap_or}
 use Rattle.std.specs.Str.{is_utf8}
 use Rattle.std.specs.Fmt.{signed_decimal}
 use Rattle.hex.specs.Hex.{encode_lower}
 use Rattle.serde_json.specs.Data.{Data, null, boolean, number, string, array, object, Members, member, no_members, put, unsigned, item, no_items}
 use Rattle.serde_json.specs.Find.{of_integer}
 use Rattle.serde_json.specs.View.{items_of}
-use Rattle.am_types.specs.Records.{OpId, ObjId, Root, Made, Key, Name, Head, Elem, Entry, RawValue}
+use Rattle.am_types.specs.declared.OpId.{OpId}
+use Rattle.am_types.specs.declared.ObjId.{ObjId}
+use Rattle.am_types.specs.declared.ObjId.TheVariants.{Root, Made}
+use Rattle.am_types.specs.declared.Key.{Key}
+use Rattle.am_types.specs.declared.Key.TheVariants.{Name, Head, Elem}
+use Rattle.am_types.specs.declared.Entry.{Entry}
+use Rattle.am_types.specs.declared.RawValue.{RawValue}
 use Rattle.am_types.specs.Actions as actions
 use Rattle.am_types.specs.Values.{number_of}
 use Rattle.am_json.specs.Entries.{Slot, slots, is_in}

@@ -3,9 +3,11 @@
 --     runs es                  the entries of an object, cut where the slot changes; of each part the last entry wins
 --     slot_of g                the slot that a group stands for
 --     inside form n es e       what the object shows that the entry e made
-use Rattle.std.specs.Prelude.{ℕ, Bool, false, List, [], ◌∷◌, if◌then◌else◌}
+--     Has64Bits z              z is a signed or an unsigned number of 64 bits
+use Rattle.std.specs.Prelude.{ℕ, ◌-◌, ◌^◌, ℤ, pos, negsuc, ◌≤ℤ◌, Bool, false, List, [], ◌∷◌, if◌then◌else◌}
 use Rattle.serde_json.specs.Data.{Data}
-use Rattle.am_types.specs.Records.{Entry, Made}
+use Rattle.am_types.specs.declared.Entry.{Entry}
+use Rattle.am_types.specs.declared.ObjId.TheVariants.{Made}
 use Rattle.am_types.specs.Same.{same_key}
 use Rattle.am_json.specs.declared.form.Form.{Form}
 use Rattle.am_json.specs.declared.groups.Group.{Group}
@@ -29,3 +31,6 @@ slot_of g = record { winner = g.winner.now; entries = g.entries.now }
 
 abbrev pub inside : Form → ℕ → List Entry → Entry → Data
 inside form n es e = object_within form n es (Made e.id) e.action
+
+abbrev pub Has64Bits : ℤ → Type 0
+Has64Bits z = (negsuc (2 ^ 63 - 1) ≤ℤ z) × (z ≤ℤ pos (2 ^ 64 - 1))

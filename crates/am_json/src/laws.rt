@@ -1,7 +1,8 @@
 //! Laws over the definitions. Each function does nothing; its contract is the law.
 ghost use Rattle.std.specs.Prelude.{◌≡◌, ◌<◌, ◌≤◌, ◌++◌, ℕ, List, Some};
 ghost use Rattle.serde_json.specs.Data.{depth};
-ghost use Rattle.am_types.specs.Records.{Entry, RawValue};
+ghost use Rattle.am_types.specs.declared.Entry.{Entry};
+ghost use Rattle.am_types.specs.declared.RawValue.{RawValue};
 ghost use Rattle.am_types.specs.Values.{Good};
 ghost use Rattle.am_json.specs.declared.form.Form.{Form};
 ghost use Rattle.am_json.specs.Entries.{IsInOrder};

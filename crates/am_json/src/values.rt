@@ -7,9 +7,10 @@ ghost use Rattle.am_types.specs.Actions as actions;
 ghost use Rattle.am_types.specs.Values.{number_of as number_in};
 ghost use Rattle.am_types.specs.Views.{id_of, value_of};
 ghost use Rattle.am_json.specs.Shown.{scalar as scalar_data, tagged as tagged_data, counter_data, number_data, text_data, piece, text_of as text_in, id_text};
+ghost use Rattle.am_json.specs.Steps.{Has64Bits};
 
 use crate::kept::Kept;
-use am_types::{IdRef, ValueRef};
+use am_types::{IdRef, ValueRef, slice_known};
 use am_values::{number_of, text_of};
 use serde_json::{Map, Value, json};
 use std::alloc::{AllocError, Global};
@@ -43,6 +44,7 @@ pub fn scalar(alloc: Global, entry: &Kept) -> Result<Value, AllocError>
 fn number(value: ValueRef<'_>) -> Value
     ensures { view result ≡ number_data (number_in (value_of value.entry)) }
 {
+    slice_known(value.raw);
     match number_of(value) {
         None => Value::Null,
         Some(number) => integer(number),
@@ -50,7 +52,10 @@ fn number(value: ValueRef<'_>) -> Value
 }
 
 // A number of 64 bits, signed or unsigned.
-fn integer(number: i128) -> Value {
+fn integer(number: i128) -> Value
+    requires { Has64Bits number }
+    ensures { view result ≡ number_data (Some number) }
+{
     match u64::try_from(number) {
         Ok(number) => Value::from(number),
         Err(_) => match i64::try_from(number) {
@@ -73,6 +78,7 @@ fn text(alloc: Global, value: ValueRef<'_>) -> Result<Value, AllocError>
 fn text_in_value<'a>(value: ValueRef<'a>) -> Option<&'a str>
     ensures { option_map (λ t. t.now) result ≡ text_in (value_of value.entry) }
 {
+    slice_known(value.raw);
     text_of(value)
 }
 
