@@ -31,7 +31,7 @@ pub number_64 : (v : RawValue) → IsBytes v.raw → (z : ℤ) → number_of v �
 number_64 v bytes z h = elim (cases_Bool (v.kind == 3)) [
   | inl t ↦ unsigned (unsigned_of v.raw) z (rw t at h) (λ n e. ((unsigned_is_shortest v.raw n bytes).0 e).0)
   | inr f ↦ let signed = rw f at h in elim (cases_Bool (is_signed_kind v.kind)) [
-      | inl t ↦ signed_64 z ((signed_is_shortest v.raw z bytes).0 (rw t at signed)).0
-      | inr g ↦ none_is z (rw g at signed)
-    ]
+    | inl t ↦ signed_64 z ((signed_is_shortest v.raw z bytes).0 (rw t at signed)).0
+    | inr g ↦ none_is z (rw g at signed)
+  ]
 ]

@@ -194,9 +194,9 @@ module _ (e : Entry) (es : List Entry) where
     same_winners : filter (is_winner (e ∷ es)) es ≡ filter (is_winner es) es
     same_winners = filter_same (is_winner (e ∷ es)) (is_winner es) (rises e) es all_rise
         (λ f h.
-            let wide : (not (same_key e.slot f.slot) || is_le (id_cmp e.id f.id)) ≡ true =
-            ap (λ b. not b || is_le (id_cmp e.id f.id)) (same_slot_sym e.slot f.slot) ∙ or_weaker (not (same_key f.slot e.slot)) _ _ (lt_le (id_cmp e.id f.id)) h in
-            ap (λ b. b && is_winner es f) wide)
+        let wide : (not (same_key e.slot f.slot) || is_le (id_cmp e.id f.id)) ≡ true =
+        ap (λ b. not b || is_le (id_cmp e.id f.id)) (same_slot_sym e.slot f.slot) ∙ or_weaker (not (same_key f.slot e.slot)) _ _ (lt_le (id_cmp e.id f.id)) h in
+        ap (λ b. b && is_winner es f) wide)
 
     self : is_winner (e ∷ es) e ≡ is_winner es e
     self = ap (λ b. (not (same_key e.slot e.slot) || b) && is_winner es e) (le_self e.id) ∙ by (not (same_key e.slot e.slot))

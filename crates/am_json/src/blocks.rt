@@ -10,7 +10,7 @@ use am_types::{ObjRef, compare_ids};
 use std::cmp::Ordering;
 
 // The order of objects: the root first, then by id.
-fn compare_objects(a: ObjRef<'_>, b: ObjRef<'_>) -> Ordering
+pub fn compare_objects(a: ObjRef<'_>, b: ObjRef<'_>) -> Ordering
     ensures { result ≡ object_cmp (object_of a.entry) (object_of b.entry) }
 {
     match (a, b) {

@@ -23,7 +23,7 @@ fn is_same_id(a: IdRef<'_>, b: IdRef<'_>) -> bool
     compare_ids(a, b).is_eq()
 }
 
-fn is_same_key(a: KeyRef<'_>, b: KeyRef<'_>) -> bool
+pub fn is_same_key(a: KeyRef<'_>, b: KeyRef<'_>) -> bool
     ensures { result ≡ same_key (key_of a.entry) (key_of b.entry) }
 {
     match (a, b) {

@@ -78,7 +78,14 @@ fn shown(
 {
     let action = entry.action();
     if makes(action) {
-        object_within(alloc, form, entries, ObjRef::Made(entry.id()), action, levels)
+        object_within(
+            alloc,
+            form,
+            entries,
+            ObjRef::Made(entry.id()),
+            action,
+            levels,
+        )
     } else {
         scalar(alloc, entry)
     }

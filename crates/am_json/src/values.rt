@@ -102,7 +102,11 @@ fn counter(alloc: Global, total: i128) -> Result<Value, AllocError>
 {
     match i64::try_from(total) {
         Ok(number) => Ok(Value::from(number)),
-        Err(_) => tagged(alloc, "$counter", Value::String(format!(in alloc; "{total}")?)),
+        Err(_) => tagged(
+            alloc,
+            "$counter",
+            Value::String(format!(in alloc; "{total}")?),
+        ),
     }
 }
 

@@ -20,17 +20,17 @@ loop-i-preserved c =
     let follows : c.is_followed.result ≡ goes_on c.index-own-i.result (drop (c.loop-i.i + 1) c.args.own.now) = c.is_followed.ensures ∙ ap (goes_on c.index-own-i.result) tail in
     elim c.if-not-is_followed.branch [
       | then-not-is_followed+in_ok-push w ↦ record {
-          low = rw w.start-is (omega arith);
-          is =
+        low = rw w.start-is (omega arith);
+        is =
             let none : c.loop-i.i + 1 - (c.loop-i.i + 1) ≡ 0 = omega arith in
             rw (w.groups-is, w.start-is, w.in_ok-push.ensures.items, map-append, none, part)
             (turn_last (map slot_of c.loop-i.groups.items) (take (c.loop-i.i - c.loop-i.start) (drop c.loop-i.start c.args.own.now)) c.index-own-i.result (drop (c.loop-i.i + 1) c.args.own.now) c.args.own.now inv (sym follows ∙ w.if-not-is_followed.true));
-        }
+      }
       | else-not-is_followed w ↦ record {
-          low = rw w.start-is (omega arith);
-          is = rw (w.groups-is, w.start-is, part)
-          (turn_more (map slot_of c.loop-i.groups.items) (take (c.loop-i.i - c.loop-i.start) (drop c.loop-i.start c.args.own.now)) c.index-own-i.result (drop (c.loop-i.i + 1) c.args.own.now) c.args.own.now inv (sym follows ∙ w.if-not-is_followed.false));
-        }
+        low = rw w.start-is (omega arith);
+        is = rw (w.groups-is, w.start-is, part)
+            (turn_more (map slot_of c.loop-i.groups.items) (take (c.loop-i.i - c.loop-i.start) (drop c.loop-i.start c.args.own.now)) c.index-own-i.result (drop (c.loop-i.i + 1) c.args.own.now) c.args.own.now inv (sym follows ∙ w.if-not-is_followed.false));
+      }
     ]
 
 pub returns : goal.returns
