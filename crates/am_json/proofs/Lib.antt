@@ -2,6 +2,7 @@ pub mod ObjectOrder
 pub mod Searched
 pub mod SlotRuns
 pub mod Ordered
+pub mod Pushed
 pub mod Joined
 pub mod Levels
 pub mod Agree

@@ -51,10 +51,10 @@ fn groups_of<'a>(alloc: Global, own: &'a [Kept]) -> Result<Vec<Group<'a>>, Alloc
     let mut groups = Vec::new(alloc);
     let mut start = 0;
     for i in 0..own.len() {
-        let winner = &own[i];
-        if !is_followed(winner, &own[i + 1..]) {
+        let entry = &own[i];
+        if !is_followed(entry, &own[i + 1..]) {
             groups.push(Group {
-                winner,
+                winner: entry,
                 entries: &own[start..i + 1],
             })?;
             start = i + 1;

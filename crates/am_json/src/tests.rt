@@ -1,5 +1,6 @@
 //! Outside texts: of all kinds of values and objects in both forms, of deep nesting, and of strings.
-ghost use Rattle.std.specs.Prelude.{◌≡◌};
+ghost use Rattle.std.specs.Prelude.{◌≡◌, not};
+ghost use Rattle.std.specs.List.{list_all};
 ghost use Rattle.am_json.specs.Entries.{may_precede as may_come, shares_slot, goes_before as goes, is_followed as follows, is_in_order, IsInOrder};
 
 use crate::blocks::compare_objects;
@@ -33,11 +34,22 @@ fn is_followed(e: &Entry, rest: &[Entry]) -> bool
     }
 }
 
+fn may_precede_all(e: &Entry, rest: &[Entry]) -> bool
+    ensures { result ≡ list_all (may_come e.now) rest.now }
+{
+    rest.iter().all(|f| may_precede(e, f))
+}
+
+fn shares_with_none(e: &Entry, rest: &[Entry]) -> bool
+    ensures { result ≡ list_all (λ f. not (shares_slot e.now f)) rest.now }
+{
+    rest.iter().all(|f| !shares(e, f))
+}
+
 fn goes_before(e: &Entry, rest: &[Entry]) -> bool
     ensures { result ≡ goes e.now rest.now }
 {
-    rest.iter().all(|f| may_precede(e, f))
-        && (is_followed(e, rest) || rest.iter().all(|f| !shares(e, f)))
+    may_precede_all(e, rest) && (is_followed(e, rest) || shares_with_none(e, rest))
 }
 
 // Whether the entries are in a document's order.
