@@ -102,11 +102,10 @@ fn counter(alloc: Global, total: i128) -> Result<Value, AllocError>
 {
     match i64::try_from(total) {
         Ok(number) => Ok(Value::from(number)),
-        Err(_) => tagged(
-            alloc,
-            "$counter",
-            Value::String(format!(in alloc; "{total}")?),
-        ),
+        Err(_) => {
+            let digits = Value::String(format!(in alloc; "{total}")?);
+            tagged(alloc, "$counter", digits)
+        }
     }
 }
 
