@@ -6,6 +6,7 @@ pub mod Noting
 pub mod Deepest
 pub mod Growing
 pub mod Naming
+pub mod Ranking
 pub mod Descent
 pub mod Finding
 pub mod Found

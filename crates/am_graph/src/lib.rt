@@ -1,6 +1,7 @@
 //! The graph of a set of changes: its heads, ancestors, clocks and canonical order.
 #![tactic(auto)]
 
+mod canonical;
 mod clock;
 mod fault;
 mod find;
