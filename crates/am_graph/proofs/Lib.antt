@@ -1,5 +1,6 @@
 pub mod Joining
 pub mod Clocking
+pub mod Copying
 pub mod Covered
 pub mod Depths
 pub mod Noting

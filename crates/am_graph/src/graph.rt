@@ -78,7 +78,7 @@ impl Graph {
             return Err(GraphFault::MissingDep(dep));
         }
         let actor = actor.copy(alloc)?;
-        let deps = listed(alloc, deps)?;
+        let deps = List::from(Vec::from_slice(alloc, deps)?);
         let node = Node {
             actor,
             seq,
@@ -147,7 +147,7 @@ impl Graph {
             pick(&mut found, *hash, is_head)?;
         }
         found.sort_unstable();
-        Ok(listed(alloc, found.as_slice())?)
+        Ok(List::from(found))
     }
 
     /// The hashes that a change has as a dependency.
@@ -178,7 +178,7 @@ impl Graph {
             pick(&mut found, *hash, is_wanted)?;
         }
         found.sort_unstable();
-        Ok(listed(alloc, found.as_slice())?)
+        Ok(List::from(found))
     }
 
     /// The hashes of the ancestors.
@@ -221,16 +221,6 @@ fn pick(found: &mut Vec<Hash>, hash: Hash, is_picked: bool) -> Result<(), AllocE
         found.push(hash)?;
     }
     Ok(())
-}
-
-fn listed(alloc: Global, hashes: &[Hash]) -> Result<List<Hash>, AllocError>
-    ensures { IfOk result (λ list. list ≡ hashes.now) }
-{
-    let mut list = List::new(alloc);
-    for hash in hashes {
-        list.push(*hash)?;
-    }
-    Ok(list)
 }
 
 /// What is answered to a change where this one is held with its hash.

@@ -3,6 +3,7 @@
 
 mod canonical;
 mod clock;
+mod copy;
 mod fault;
 mod find;
 mod graph;
