@@ -21,7 +21,7 @@ struct Rank<'a> {
 impl Graph {
     /// The hashes in canonical order: by depth, then by the actor's bytes, then by seq, then by hash.
     pub fn order(&self, alloc: Global) -> Result<List<Hash>, AllocError>
-        ensures { IfOk result (λ found. ForSet self.now (λ C. found ≡ hashes (order C))) }
+        ensures set { IfOk result (λ found. ForSet self.now (λ C. found ≡ hashes (order C))) }
     {
         let mut ranks = self.ranks(alloc)?;
         ranks.sort_unstable();

@@ -36,7 +36,7 @@ impl Model for Graph {
 impl Graph {
     /// A graph of no changes.
     pub fn new(alloc: Global) -> Self
-        ensures { result ≡ [] }
+        ensures empty { result ≡ [] }
     {
         Graph {
             parts: Parts::new(alloc),
@@ -137,7 +137,7 @@ impl Graph {
 
     /// The hashes that no change has as a dependency, ascending.
     pub fn heads(&self, alloc: Global) -> Result<List<Hash>, AllocError>
-        ensures { IfOk result (λ found. ForSet self.now (λ C. found ≡ heads_of C)) }
+        ensures set { IfOk result (λ found. ForSet self.now (λ C. found ≡ heads_of C)) }
     {
         let named = self.named(alloc)?;
         let mut found: Vec<Hash> = Vec::new(alloc);

@@ -10,6 +10,8 @@ mod graph;
 mod node;
 mod parts;
 mod reach;
+#[cfg(test)]
+mod tests;
 mod walk;
 
 pub use clock::{Clock, Reached, covers_ancestors_alone};
