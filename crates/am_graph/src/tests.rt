@@ -88,7 +88,12 @@ fn adds_once(rt: HostRuntime) -> Result<(), Fail> {
     assert_eq!(rt; clash, Added::Clash);
     let new = add(&mut graph, rt.alloc(), 6, &BB, 3, 7, 1, &[hash(7)])?;
     assert_eq!(rt; new, Added::New);
-    assert!(rt; add(&mut graph, rt.alloc(), 4, &AA, 4, 6, 1, &[hash(8)]).is_err());
+    let actor = ActorId::of(rt.alloc(), &AA)?;
+    let deps = [hash(8)];
+    if ascend(&deps) {
+        let refused = graph.add(rt.alloc(), hash(4), &actor, 4, 6, 1, &deps);
+        assert_eq!(rt; refused, Err(GraphFault::MissingDep(hash(8))));
+    }
     assert!(rt; !graph.holds(&hash(4)));
     Ok(())
 }
