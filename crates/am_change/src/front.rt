@@ -53,13 +53,13 @@ fn lists_at(bytes: &[u8]) -> Option<(ActorList<'_>, ColumnList<'_>, &[u8])>
 }
 
 impl<'a> FrontRef<'a> {
-    ghost use Rattle.std.specs.Prelude.{◌≡◌, ◌++◌, ℕ, List, IfSome, IsSomeAnd};
+    ghost use Rattle.std.specs.Prelude.{◌≡◌, ◌*◌, ◌++◌, ℕ, List, length, IfSome, IsSomeAnd};
     ghost use Rattle.am_change.specs.Fronts.{Front, front_bytes, IsFront};
     ghost use Rattle.am_change.specs.Building.{front_of};
 
     // What stands first in the contents, and the bytes behind it; None where no such parts stand there.
     pub fn read(bytes: &'a [u8]) -> Option<(FrontRef<'a>, &'a [u8])>
-        ensures some { IfSome result (λ r. IsFront (front_of r.0) × (bytes.now ≡ front_bytes (front_of r.0) ++ r.1.now)) }
+        ensures some { IfSome result (λ r. IsFront (front_of r.0) × (bytes.now ≡ front_bytes (front_of r.0) ++ r.1.now) × (length r.0.hashes.now ≡ 32 * r.0.count)) }
         ensures only { (front : Front) (rest : List ℕ) → IsFront front → bytes.now ≡ front_bytes front ++ rest
             → IsSomeAnd result (λ r. (front_of r.0 ≡ front) × (r.1.now ≡ rest)) }
     {

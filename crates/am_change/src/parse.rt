@@ -86,14 +86,11 @@ fn built(
     })
 }
 
-/// The change with these contents of a chunk (Automerge Binary Document Format, "Change Chunks"). BadChange where no
-/// fine change has them, CompressedColumn where the parts in front of the columns can be read and list a column that is
-/// compressed by DEFLATE, NoMemory where the allocator had no memory.
-pub fn parse_change(alloc: Global, bytes: &[u8]) -> Result<Change, ChangeFault>
-    ensures judged { Judges bytes.now result }
-    // The contents of a fine change are read as this change.
-    ensures complete { (c : Change) → Fine c → bytes.now ≡ contents c → (result ≡ Ok c) ⊎ (result ≡ Err ChangeFault.NoMemory) }
+// The change with these contents.
+fn parsed(alloc: Global, bytes: &[u8]) -> Result<Change, ChangeFault>
+    ensures { Judges bytes.now result }
 {
+    let _size = bytes.len();
     let Some((front, rest)) = FrontRef::read(bytes) else {
         return Err(ChangeFault::BadChange);
     };
@@ -112,4 +109,16 @@ pub fn parse_change(alloc: Global, bytes: &[u8]) -> Result<Change, ChangeFault>
         return Err(ChangeFault::BadChange);
     }
     Ok(change)
+}
+
+/// The change with these contents of a chunk (Automerge Binary Document Format, "Change Chunks"). BadChange where no
+/// fine change has them, CompressedColumn where the parts in front of the columns can be read and list a column that is
+/// compressed by DEFLATE, NoMemory where the allocator had no memory.
+pub fn parse_change(alloc: Global, bytes: &[u8]) -> Result<Change, ChangeFault>
+    ensures judged { Judges bytes.now result }
+    // The contents of a fine change are read as this change.
+    ensures complete { (c : Change) → Fine c → bytes.now ≡ contents c → (result ≡ Ok c) ⊎ (result ≡ Err ChangeFault.NoMemory) }
+{
+    let _size = bytes.len();
+    parsed(alloc, bytes)
 }
