@@ -45,7 +45,7 @@ contents-front c =
 record Short (f : Front) (rest : List ℕ) : Type 0 where
   message : length f.message < 2 ^ 64
   others : length (actors_bytes f.others) < 2 ^ 64
-  rest : length rest < 2 ^ 64
+  behind : length rest < 2 ^ 64
 
 short_parts : (a b c d e f g h r : List ℕ) (n : ℕ) → length ((a ++ (b ++ (c ++ (d ++ (e ++ (f ++ (g ++ h))))))) ++ r) < n → (length f < n) × (length g < n) × (length r < n)
 short_parts a b c d e f g h r n s =
@@ -62,7 +62,7 @@ short_parts a b c d e f g h r n s =
 short : (f : Front) (rest : List ℕ) → length (front_bytes f ++ rest) < 2 ^ 64 → Short f rest
 short f rest s =
     let p = short_parts (hashes_bytes f.deps) (prefixed f.actor) (uleb f.seq) (uleb f.start) (leb f.time) (prefixed f.message) (actors_bytes f.others) (metadata f.listed) rest (2 ^ 64) s in
-    record { message = (let l = length-append (uleb (length f.message)) f.message in let h = p.0 in omega arith); others = p.1; rest = p.2 }
+    record { message = (let l = length-append (uleb (length f.message)) f.message in let h = p.0 in omega arith); others = p.1; behind = p.2 }
 
 all_short : (xs : List (List ℕ)) (n : ℕ) → length (flat_map prefixed xs) ≤ n → n < 2 ^ 64 → AllByRecursion IsPrefixed xs × (length xs ≤ n)
 all_short [] n h s = (tt, omega arith)
@@ -151,7 +151,7 @@ short_behind c s =
     let size : length (front_bytes (front c) ++ (body (written_columns c.actor c.ops) ++ c.extra)) < 2 ^ 64 = subst (λ (b : List ℕ). length b < 2 ^ 64) (contents-front c) s in
     let parts = short (front c) (body (written_columns c.actor c.ops) ++ c.extra) size in
     let l = length-append (body (written_columns c.actor c.ops)) c.extra in
-    let r = parts.rest in
+    let r = parts.behind in
     omega arith
 
 pub is_front : (c : Change) → Fine c → length (contents c) < 2 ^ 64 → IsFront (front c)
