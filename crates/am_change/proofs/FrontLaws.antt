@@ -1,5 +1,5 @@
 -- What stands first in bytes, and what is behind it.
-use Rattle.std.proofs.Common.{◌≡◌, ℕ, zero, suc, ◌+◌, ◌*◌, ◌<◌, ◌≤◌, ◌^◌, List, [], ◌∷◌, ◌++◌, length, take, drop, refl, sym, ap, ◌∙◌, subst, arith, append_assoc}
+use Rattle.std.proofs.Common.{◌≡◌, ℕ, zero, suc, ◌+◌, ◌-◌, ◌*◌, ◌<◌, ◌≤◌, ◌^◌, List, [], ◌∷◌, ◌++◌, length, take, drop, refl, sym, ap, ◌∙◌, subst, arith, append_assoc}
 use Rattle.std.specs.Prelude.{Result, Ok, ℤ, FitsSigned}
 use Rattle.std.specs.Int.{w64}
 use Rattle.std.specs.Result.{result_unwrap_or}
@@ -44,6 +44,17 @@ prefixed_only bytes body text rest others more n count e t r = (
 pub length-hashes_in : (n : ℕ) (bytes : List ℕ) → length (hashes_in n bytes) ≡ n
 length-hashes_in zero bytes = refl
 length-hashes_in (suc n) bytes = ap suc (length-hashes_in n (drop 32 bytes))
+
+pub hashes_in-next : (n : ℕ) (bytes : List ℕ) → 0 < n → hashes_in n bytes ≡ hash_with (take 32 bytes) ∷ hashes_in (n - 1) (drop 32 bytes)
+hashes_in-next zero bytes h = absurd (omega arith)
+hashes_in-next (suc n) bytes h = ap (λ k. hash_with (take 32 bytes) ∷ hashes_in k (drop 32 bytes)) (let e : n ≡ suc n - 1 = omega arith in e)
+
+-- one more hash is read
+pub hashes_step : (hashes whole next : List Hash) (bytes first more : List ℕ) (n : ℕ) → 0 < n → first ≡ take 32 bytes → more ≡ drop 32 bytes → next ≡ hashes ++ hash_with first ∷ [] → hashes ++ hashes_in n bytes ≡ whole → next ++ hashes_in (n - 1) more ≡ whole
+hashes_step hashes whole next bytes first more n some f m e so_far =
+    ap (λ z. z ++ hashes_in (n - 1) more) e ∙ append_assoc hashes (hash_with first ∷ []) (hashes_in (n - 1) more)
+    ∙ ap (λ z. hashes ++ hash_with z ∷ hashes_in (n - 1) more) f ∙ ap (λ z. hashes ++ hash_with (take 32 bytes) ∷ hashes_in (n - 1) z) m
+    ∙ ap (λ z. hashes ++ z) (sym (hashes_in-next n bytes some)) ∙ so_far
 
 pub bytes-hashes_in : (n : ℕ) (bytes : List ℕ) → length bytes ≡ 32 * n → flat_map (λ h. h.0) (hashes_in n bytes) ≡ bytes
 bytes-hashes_in zero bytes e = sym (nil_from_length bytes (e ∙ (let z : 32 * 0 ≡ 0 = refl in z)))

@@ -1,6 +1,7 @@
 -- What a reader finds, against any fine change with the same contents.
 use Rattle.std.proofs.Common.{◌≡◌, ℕ, ◌<◌, ◌≤◌, ◌^◌, List, [], ◌∷◌, ◌++◌, length, map, take, drop, refl, sym, ap, ◌∙◌, subst, arith, inl, inr, ◌⊎◌}
-use Rattle.std.specs.Prelude.{Result, Ok, Err}
+use Rattle.std.specs.Prelude.{Result, Ok, Err, bytes_eq, not, Bool, true, false}
+use Rattle.std.proofs.lemmas.Slice.Eq.{bytes_eq-Decides}
 use Rattle.std.specs.List.{AllByRecursion}
 use Rattle.std.proofs.lemmas.List.{length-append, take_at, drop_at}
 use Rattle.am_types.specs.declared.Op.{Op}
@@ -126,3 +127,10 @@ one_judgement bytes (Err CompressedColumn) (Ok d) s h k = absurd (fine_plain byt
 one_judgement bytes (Err CompressedColumn) (Err BadChange) s h k = absurd (k.0 h)
 one_judgement bytes (Err CompressedColumn) (Err CompressedColumn) s h k = inr (inr refl)
 one_judgement bytes (Err CompressedColumn) (Err NoMemory) s h k = inr (inl refl)
+
+pub same_bytes : (a b : List ℕ) → false ≡ not (bytes_eq a b) → a ≡ b
+same_bytes a b e = by_answer (bytes_eq a b) refl e
+  where
+    by_answer : (t : Bool) → bytes_eq a b ≡ t → false ≡ not t → a ≡ b
+    by_answer true is e = (bytes_eq-Decides a b).0 is
+    by_answer false is e = absurd (cc)

@@ -86,11 +86,18 @@ fn built(
     })
 }
 
+// The length of a slice fits 64 bits.
+fn length_known(bytes: &[u8])
+    ensures { length bytes.now < 2 ^ 64 }
+{
+    let _size = bytes.len();
+}
+
 // The change with these contents.
 fn parsed(alloc: Global, bytes: &[u8]) -> Result<Change, ChangeFault>
     ensures { Judges bytes.now result }
 {
-    let _size = bytes.len();
+    length_known(bytes);
     let Some((front, rest)) = FrontRef::read(bytes) else {
         return Err(ChangeFault::BadChange);
     };
@@ -119,6 +126,6 @@ pub fn parse_change(alloc: Global, bytes: &[u8]) -> Result<Change, ChangeFault>
     // The contents of a fine change are read as this change.
     ensures complete { (c : Change) → Fine c → bytes.now ≡ contents c → (result ≡ Ok c) ⊎ (result ≡ Err ChangeFault.NoMemory) }
 {
-    let _size = bytes.len();
+    length_known(bytes);
     parsed(alloc, bytes)
 }
