@@ -111,9 +111,28 @@ plain actors ops =
     (no 0 refl, (no 0 refl, (no 0 refl, (no 0 refl, (no 0 refl, (no 0 refl, (no 0 refl, (no 0 refl, (no 0 refl, (no 0 refl, (no 0 refl, (no 0 refl, (no 0 refl, (no 0 refl, tt))))))))))))))
 
 are_known : (actors : List (List ℕ)) (ops : List Op) → AllByRecursion (λ c. Contains known c.0) (spellings actors (op_columns ops))
-are_known actors ops =
-    ((0, omega arith, refl), ((1, omega arith, refl), ((2, omega arith, refl), ((3, omega arith, refl), ((4, omega arith, refl), ((5, omega arith, refl), ((6, omega arith, refl),
-    ((7, omega arith, refl), ((8, omega arith, refl), ((9, omega arith, refl), ((10, omega arith, refl), ((11, omega arith, refl), ((12, omega arith, refl), ((13, omega arith, refl), tt))))))))))))))
+are_known actors ops = (
+  (0, omega arith, refl),
+  (
+    (1, omega arith, refl),
+    (
+      (2, omega arith, refl),
+      (
+        (3, omega arith, refl),
+        (
+          (4, omega arith, refl),
+          (
+            (5, omega arith, refl),
+            (
+              (6, omega arith, refl),
+              ((7, omega arith, refl), ((8, omega arith, refl), ((9, omega arith, refl), ((10, omega arith, refl), ((11, omega arith, refl), ((12, omega arith, refl), ((13, omega arith, refl), tt))))))),
+            ),
+          ),
+        ),
+      ),
+    ),
+  ),
+)
 
 low : (actors : List (List ℕ)) (ops : List Op) → AllByRecursion (λ c. c.0 < 2 ^ 64) (spellings actors (op_columns ops))
 low actors ops = (omega arith, (omega arith, (omega arith, (omega arith, (omega arith, (omega arith, (omega arith, (omega arith, (omega arith, (omega arith, (omega arith, (omega arith, (omega arith, (omega arith, tt))))))))))))))
@@ -196,6 +215,6 @@ contents-same c d good fine s e =
     let actor : d.actor ≡ c.actor = sym (ap (λ f. f.actor) parts.0) in
     let named : others d.actor d.ops ≡ others c.actor c.ops = sym (ap (λ f. f.others) parts.0) in
     let here : SpellsOps (c.actor ∷ others c.actor c.ops) (written_columns c.actor c.ops) d.ops =
-        subst (P c.actor (others c.actor c.ops)) (sym same.0) (subst (λ os. P c.actor os (written_columns d.actor d.ops)) named (subst (λ a. P a (others d.actor d.ops) (written_columns d.actor d.ops)) actor theirs)) in
+    subst (P c.actor (others c.actor c.ops)) (sym same.0) (subst (λ os. P c.actor os (written_columns d.actor d.ops)) named (subst (λ a. P a (others d.actor d.ops) (written_columns d.actor d.ops)) actor theirs)) in
     let ops = ops-same (c.actor ∷ others c.actor c.ops) (written_columns c.actor c.ops) c.ops d.ops (own_ops c good s) here in
     ap (λ f. change_with f c.ops c.extra) parts.0 ∙ ap (λ o. change_with (front d) o c.extra) ops ∙ ap (λ x. change_with (front d) d.ops x) same.1

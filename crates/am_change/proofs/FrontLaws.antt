@@ -162,8 +162,8 @@ front-splits f g r s a b e =
     let r2 = prefixed f.actor ++ r3 in
     let s2 = prefixed g.actor ++ s3 in
     let whole : hashes_bytes f.deps ++ r2 ≡ hashes_bytes g.deps ++ s2 =
-        sym (right (hashes_bytes f.deps) (prefixed f.actor) (uleb f.seq) (uleb f.start) (leb f.time) (prefixed f.message) (actors_bytes f.others) (metadata f.listed) r) ∙ e
-        ∙ right (hashes_bytes g.deps) (prefixed g.actor) (uleb g.seq) (uleb g.start) (leb g.time) (prefixed g.message) (actors_bytes g.others) (metadata g.listed) s in
+    sym (right (hashes_bytes f.deps) (prefixed f.actor) (uleb f.seq) (uleb f.start) (leb f.time) (prefixed f.message) (actors_bytes f.others) (metadata f.listed) r) ∙ e
+    ∙ right (hashes_bytes g.deps) (prefixed g.actor) (uleb g.seq) (uleb g.start) (leb g.time) (prefixed g.message) (actors_bytes g.others) (metadata g.listed) s in
     let deps = hashes-split f.deps g.deps r2 s2 a b whole in
     let actor = prefixed-Splits f.actor g.actor r3 s3 deps.1 in
     let seq = number-Splits f.seq g.seq r4 s4 actor.1 in
@@ -190,18 +190,21 @@ read_is bytes hashes actor message r0 r1 r2 r3 r4 count seq start time again oth
     let deps = hashes_bytes (hashes_in count hashes) in
     let P : ℤ → Type 0 = λ z. IsFront (reading count hashes actor seq start z message others listed) × (bytes ≡ front_bytes (reading count hashes actor seq start z message others listed) ++ r4) in
     let whole : bytes ≡ deps ++ (prefixed actor ++ (uleb seq ++ (uleb start ++ (leb time ++ (prefixed message ++ (actors_bytes others ++ (metadata listed ++ r4))))))) =
-        e0 ∙ ap (λ z. deps ++ z) (e1 ∙ ap (λ z. prefixed actor ++ z) (e2 ∙ ap (λ z. uleb seq ++ (uleb start ++ (leb time ++ z))) (e3 ∙ ap (λ z. prefixed message ++ z) e4))) in
-    subst P (sym back) (record {
-      hashes = sized-hashes_in count hashes size;
-      deps = subst (λ n. n < 2 ^ 64) (sym (length-hashes_in count hashes)) few;
-      actor = short;
-      seq = seq_fits;
-      start = start_fits;
-      time = time_fits;
-      message = text;
-      others = named;
-      listed = pairs;
-    }, whole ∙ sym (right deps (prefixed actor) (uleb seq) (uleb start) (leb time) (prefixed message) (actors_bytes others) (metadata listed) r4))
+    e0 ∙ ap (λ z. deps ++ z) (e1 ∙ ap (λ z. prefixed actor ++ z) (e2 ∙ ap (λ z. uleb seq ++ (uleb start ++ (leb time ++ z))) (e3 ∙ ap (λ z. prefixed message ++ z) e4))) in
+    subst P (sym back) (
+      record {
+        hashes = sized-hashes_in count hashes size;
+        deps = subst (λ n. n < 2 ^ 64) (sym (length-hashes_in count hashes)) few;
+        actor = short;
+        seq = seq_fits;
+        start = start_fits;
+        time = time_fits;
+        message = text;
+        others = named;
+        listed = pairs;
+      },
+      whole ∙ sym (right deps (prefixed actor) (uleb seq) (uleb start) (leb time) (prefixed message) (actors_bytes others) (metadata listed) r4),
+    )
 
 -- the parts of a front, from the left
 pub from_left : (f : Front) (bytes rest : List ℕ) → bytes ≡ front_bytes f ++ rest

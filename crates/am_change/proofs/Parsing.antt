@@ -46,18 +46,20 @@ short_as bytes c s e = subst (λ (b : List ℕ). length b < 2 ^ 64) e s
 
 -- no front stands there
 pub no_front : (bytes : List ℕ) → length bytes < 2 ^ 64 → ((f : Front) (rest : List ℕ) → IsFront f → bytes ≡ front_bytes f ++ rest → ⊥) → Judges bytes (Err BadChange)
-no_front bytes s none =
-    (λ k. none k.parts k.rest k.is_front k.bytes_are,
-     λ c fine e. none (front c) (body (written_columns c.actor c.ops) ++ c.extra) (is_front c fine (short_as bytes c s e)) (e ∙ contents-front c))
+no_front bytes s none = (
+  λ k. none k.parts k.rest k.is_front k.bytes_are,
+  λ c fine e. none (front c) (body (written_columns c.actor c.ops) ++ c.extra) (is_front c fine (short_as bytes c s e)) (e ∙ contents-front c),
+)
 
 -- a front stands there, and no fine change has it with what is behind it
 pub no_change : (bytes : List ℕ) (f : Front) (rest : List ℕ) → length bytes < 2 ^ 64 → IsFront f → bytes ≡ front_bytes f ++ rest → (AreCompressed f.listed → ⊥)
     → ((c : Change) → Fine c → length (contents c) < 2 ^ 64 → f ≡ front c → rest ≡ body (written_columns c.actor c.ops) ++ c.extra → bytes ≡ contents c → ⊥) → Judges bytes (Err BadChange)
-no_change bytes f rest s is e plain none =
-    (plain_front bytes f rest is e plain,
-     λ c fine b.
-         let same = front-splits f (front c) rest (body (written_columns c.actor c.ops) ++ c.extra) is.hashes (deps_sized c fine) (sym e ∙ b ∙ contents-front c) in
-         none c fine (short_as bytes c s b) same.0 same.1 b)
+no_change bytes f rest s is e plain none = (
+  plain_front bytes f rest is e plain,
+  λ c fine b.
+      let same = front-splits f (front c) rest (body (written_columns c.actor c.ops) ++ c.extra) is.hashes (deps_sized c fine) (sym e ∙ b ∙ contents-front c) in
+      none c fine (short_as bytes c s b) same.0 same.1 b,
+)
 
 -- behind the front
 

@@ -13,10 +13,11 @@ returns-then-count-body-clause-only c = λ hashes rest a small e.
     omega arith
 
 pub returns-clause-some : goal.returns-clause-some
-returns-clause-some c =
-    (hashes_is c.args.bytes.now c.in_ok-count.body.now c.split_at.result.0.now c.split_at.result.1.now c.in_ok-count.count (c.in_ok-count.count * 32) c.in_ok-count.ensures.some.0 c.split_at.ensures.front c.split_at.ensures.back c.split_at.ensures.front_len (omega arith),
-     omega (arith, c.split_at.ensures.front_len),
-     c.in_ok-count.ensures.some.1)
+returns-clause-some c = (
+  hashes_is c.args.bytes.now c.in_ok-count.body.now c.split_at.result.0.now c.split_at.result.1.now c.in_ok-count.count (c.in_ok-count.count * 32) c.in_ok-count.ensures.some.0 c.split_at.ensures.front c.split_at.ensures.back c.split_at.ensures.front_len (omega arith),
+  omega (arith, c.split_at.ensures.front_len),
+  c.in_ok-count.ensures.some.1,
+)
 
 pub returns-clause-only : goal.returns-clause-only
 returns-clause-only c = λ hashes rest a small e.

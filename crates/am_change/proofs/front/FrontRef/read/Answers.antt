@@ -27,8 +27,8 @@ returns-clause-some c =
     let lists = c.in_ok-others.ensures.some in
     let back : to_z w64 (of_z w64 c.in_ok-seq.time) ≡ c.in_ok-seq.time = to_z-of_z w64 c.in_ok-seq.time stamps.3 in
     let read = read_is c.args.bytes.now c.in_ok-count.hashes.now c.in_ok-actor.actor.now c.in_ok-message.message.now c.in_ok-count.rest.now c.in_ok-actor.rest.now c.in_ok-seq.rest.now c.in_ok-message.rest.now c.in_ok-others.rest.now
-        c.in_ok-count.count c.in_ok-seq.seq c.in_ok-seq.start c.in_ok-seq.time (to_z w64 (of_z w64 c.in_ok-seq.time)) c.in_ok-others.others c.in_ok-others.listed back
-        count.0 count.1 count.2 actor.0 actor.1 stamps.0 stamps.1 stamps.2 stamps.3 message.0 message.1 lists.0 lists.1 lists.2 in
+    c.in_ok-count.count c.in_ok-seq.seq c.in_ok-seq.start c.in_ok-seq.time (to_z w64 (of_z w64 c.in_ok-seq.time)) c.in_ok-others.others c.in_ok-others.listed back
+    count.0 count.1 count.2 actor.0 actor.1 stamps.0 stamps.1 stamps.2 stamps.3 message.0 message.1 lists.0 lists.1 lists.2 in
     (read.0, read.1, count.1)
 
 pub returns-clause-only : goal.returns-clause-only
@@ -41,6 +41,8 @@ returns-clause-only c = λ f rest is e.
     let stamps = c.in_ok-seq.ensures.only f.seq f.start f.time r3 is.seq is.start is.time actor.1 in
     let message = c.in_ok-message.ensures.only f.message r5 is.message stamps.3 in
     let lists = c.in_ok-others.ensures.only f.others f.listed rest is.others is.listed message.1 in
-    let back : to_z w64 (of_z w64 c.in_ok-seq.time) ≡ c.in_ok-seq.time = to_z-of_z w64 c.in_ok-seq.time c.in_ok-seq.ensures.some.3 in
-    (front-same (reading c.in_ok-count.count c.in_ok-count.hashes.now c.in_ok-actor.actor.now c.in_ok-seq.seq c.in_ok-seq.start (to_z w64 (of_z w64 c.in_ok-seq.time)) c.in_ok-message.message.now c.in_ok-others.others c.in_ok-others.listed) f
-        deps.0 actor.0 stamps.0 stamps.1 (back ∙ stamps.2) message.0 lists.0 lists.1, lists.2)
+    let back : to_z w64 (of_z w64 c.in_ok-seq.time) ≡ c.in_ok-seq.time = to_z-of_z w64 c.in_ok-seq.time c.in_ok-seq.ensures.some.3 in (
+      front-same (reading c.in_ok-count.count c.in_ok-count.hashes.now c.in_ok-actor.actor.now c.in_ok-seq.seq c.in_ok-seq.start (to_z w64 (of_z w64 c.in_ok-seq.time)) c.in_ok-message.message.now c.in_ok-others.others c.in_ok-others.listed) f
+          deps.0 actor.0 stamps.0 stamps.1 (back ∙ stamps.2) message.0 lists.0 lists.1,
+      lists.2,
+    )
