@@ -5,7 +5,7 @@ use Rattle.std.specs.List.{AllByRecursion}
 use Rattle.std.specs.Option.{option_map}
 use lib.IntN.{ℤ, pos, ◌+ℤ◌}
 use Rattle.std.proofs.lemmas.Bool.{cases_Bool, both_ways, or_left, or_right, or_from, or_parts, or_cases, and_parts, eqb-true}
-use Rattle.std.proofs.lemmas.List.{append-nil, length-map, length-take-le, map_more, take_more}
+use Rattle.std.proofs.lemmas.List.{append-nil, get_or_default, length-map, length-take-le, map_more, take_more}
 use Rattle.std.proofs.lemmas.List.Sums.{fold-append}
 use Rattle.std.proofs.lemmas.Cmp.{eq_by_cmp_equiv}
 use Rattle.am_types.specs.declared.OpId.{OpId}
@@ -223,3 +223,10 @@ kept_more ns ss k n s l len is read =
     let states : take (k + 1) ss ≡ take k ss ++ s ∷ [] = take_more ss k None (omega arith) ∙ ap (λ t. take k ss ++ t ∷ []) read in
     let count : length (take k ss) ≡ length A = length-take-le k ss (omega arith) ∙ sym (length-map (take k ns) operation_of ∙ length-take-le k ns (omega arith)) in
     (λ j. kept (more j) (states j)) ∙ kept_append A (operation_of n ∷ []) (take k ss) (s ∷ []) count
+
+pub kept_skip : (ns : List Numbered) (ss : List (Option ℤ)) (k : ℕ) → k < length ns → length ss ≡ length ns → get_or ss k None ≡ None
+    → kept (map operation_of (take (k + 1) ns)) (take (k + 1) ss) ≡ kept (map operation_of (take k ns)) (take k ss)
+kept_skip [] ss k l len read = absurd (omega arith)
+kept_skip (m ∷ ns) ss k l len read =
+    let n = get_or (m ∷ ns) k m in
+    kept_more (m ∷ ns) ss k n None l len (get_or_default (m ∷ ns) k m n l) read ∙ append-nil (kept (map operation_of (take k (m ∷ ns))) (take k ss))

@@ -21,4 +21,5 @@ put_all-requires-clause-few c =
     omega arith
 
 pub number-requires-clause-rise : goal.number-requires-clause-rise
-number-requires-clause-rise c = ?
+number-requires-clause-rise c =
+    subst Rise (sym (ap (map operation_of) c.as_slice-2.ensures.value ∙ c.in_ok-elements.ensures)) (rise_filter is_insertion (map operation_of c.args.operations.now) c.requires.rise)
