@@ -1,5 +1,5 @@
 -- The operations of a valid set, in ascending id, can be read.
-use Rattle.std.proofs.Common.{ℕ, zero, suc, ◌≡◌, ◌≢◌, ◌<◌, ◌≤◌, ◌+◌, ◌^◌, ◌&&◌, nat_lt, List, [], ◌∷◌, ◌++◌, length, get_or, take, filter, sum_by, Bool, true, false, Option, Some, None, refl, sym, ap, ◌∙◌, subst, Contains, All, AllPairs, IsPermutation, inl, inr, ◌⊎◌, arith}
+use Rattle.std.proofs.Common.{ℕ, zero, suc, ◌≡◌, ◌≢◌, ◌<◌, ◌≤◌, ◌+◌, ◌-◌, ◌^◌, ◌&&◌, nat_lt, List, [], ◌∷◌, ◌++◌, length, get_or, take, filter, sum_by, Bool, true, false, Option, Some, None, refl, sym, ap, ◌∙◌, subst, Contains, All, AllPairs, IsPermutation, inl, inr, ◌⊎◌, arith}
 use Rattle.std.specs.Bool.{⊤, then_some}
 use Rattle.std.specs.List.{AllByRecursion}
 use Rattle.std.specs.Option.{option_or}
@@ -44,7 +44,7 @@ use Rattle.am_types.proofs.Sorting.{IsPermutation-sorted_by}
 use Rattle.am_types.proofs.ValidSetLaws.{grounds_valid}
 use Rattle.am_replay.specs.Line.{is_insertion, AreAnchored, IsAnchoredIn, IsHeld}
 use Rattle.am_replay.specs.Rising.{Rise, IsBelow}
-use Rattle.am_replay.specs.Sound.{Sound, IsElementOf, AreElementsKnown, HaveDistinctPreds}
+use Rattle.am_replay.specs.Sound.{Sound, HasRoom, IsElementOf, AreElementsKnown, HaveDistinctPreds}
 use Rattle.am_replay.specs.States.{AreDistinct}
 use Rattle.am_replay.proofs.Ascent.{less_apart, rise_at, rise_filter}
 
@@ -274,7 +274,13 @@ module _ (C : List Member) (v : Valid C) where
 pub sound_set : (cs : List Change) → IsValidSet cs → Sound (ascending (all_operations cs))
 sound_set cs s = subst (λ l. Sound (ascending (all_operations l))) s.are (sound_operations s.set s.valid)
 
-pub good_numbers : (cs : List Change) → IsValidSet cs → All GoodNumbers cs
-good_numbers cs s =
-    subst (All GoodNumbers) s.are
-    (All-map GoodNumbers (λ (m : Member). m.change) s.set (all_of (λ (m : Member). GoodNumbers m.change) s.set (λ m c. ((grounds_valid s.set s.valid).fine m c).numbers)))
+room : (c : Change) → GoodNumbers c → HasRoom c
+room c g =
+    let some = g.start in
+    let last : c.start + length c.ops - 1 < 2 ^ 53 = g.max in
+    omega arith
+
+pub have_room : (cs : List Change) → IsValidSet cs → All HasRoom cs
+have_room cs s =
+    subst (All HasRoom) s.are
+    (All-map HasRoom (λ (m : Member). m.change) s.set (all_of (λ (m : Member). HasRoom m.change) s.set (λ m c. room m.change ((grounds_valid s.set s.valid).fine m c).numbers)))

@@ -1,16 +1,22 @@
 -- What is asked of operations in ascending id, so that they can be read.
+--     HasRoom c               the counters of the change's operations fit 64 bits
 --     HaveDistinctPreds A     no operation of A names a predecessor twice
 --     AreElementsKnown A      what an operation of A names as an element was inserted by one of A into the same object
 --     Sound A                 all that is asked
-use Rattle.std.specs.Prelude.{ℕ, ◌≡◌, ◌≤◌, ◌^◌, true, List, length, filter, Contains}
+use Rattle.std.specs.Prelude.{ℕ, ◌≡◌, ◌≤◌, ◌<◌, ◌+◌, ◌^◌, true, List, length, filter, Contains}
 use Rattle.am_types.specs.declared.OpId.{OpId}
 use Rattle.am_types.specs.declared.ObjId.{ObjId}
 use Rattle.am_types.specs.declared.Key.TheVariants.{Elem}
+use Rattle.am_types.specs.declared.Change.{Change}
 use Rattle.am_types.specs.Operations.{Operation}
 use Rattle.am_types.specs.Elements.{inserts_into}
 use Rattle.am_replay.specs.Rising.{Rise}
 use Rattle.am_replay.specs.States.{AreDistinct}
 use Rattle.am_replay.specs.Line.{is_insertion, AreAnchored}
+
+-- the counters of its operations fit
+abbrev pub HasRoom : Change → Type 0
+HasRoom c = c.start + length c.ops < 2 ^ 64
 
 abbrev pub HaveDistinctPreds : List Operation → Type 0
 HaveDistinctPreds A = (x : Operation) → Contains A x → AreDistinct x.op.preds

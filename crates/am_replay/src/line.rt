@@ -23,7 +23,8 @@ pub struct Line<'a> {
     pub count: u64,
 }
 
-fn insertions<'a>(alloc: Global, operations: &[Numbered<'a>]) -> Result<Vec<Numbered<'a>>, AllocError>
+/// The insertions among the operations.
+pub fn insertions<'a>(alloc: Global, operations: &[Numbered<'a>]) -> Result<Vec<Numbered<'a>>, AllocError>
     ensures { IfOk result (λ found. map operation_of found.items ≡ filter is_insertion (map operation_of operations.now)) }
 {
     let mut found = Vec::new(alloc);

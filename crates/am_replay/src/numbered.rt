@@ -1,11 +1,11 @@
 //! The operations of changes, beside their ids.
 ghost use Rattle.std.specs.Prelude.{◌≡◌, ◌++◌, All, IfOk, OnOk, map};
-ghost use Rattle.am_types.specs.Fine.{GoodNumbers};
 ghost use Rattle.am_types.specs.Operations.{operations, all_operations, ascending};
 ghost use Rattle.am_types.specs.Order.{id_cmp};
 ghost use Rattle.am_types.specs.Views.{id_of};
 ghost use Rattle.am_replay.specs.Numbered.{operation_of, by_id};
 ghost use Rattle.am_replay.specs.Rising.{Rise, IsFound};
+ghost use Rattle.am_replay.specs.Sound.{HasRoom};
 
 use am_types::{ActorId, Change, IdRef, Op, OpId, Twin, compare_ids};
 use std::alloc::{AllocError, Global};
@@ -44,7 +44,7 @@ impl<'a> Numbered<'a> {
 
 // The operations of a change go up by one from its start.
 fn push_operations<'a>(all: &mut Vec<Numbered<'a>>, change: &'a Change) -> Result<(), AllocError>
-    requires numbers { GoodNumbers change.now }
+    requires room { HasRoom change.now }
     ensures { OnOk result (map operation_of all.new.items ≡ map operation_of all.old.items ++ operations change.now) }
 {
     let mut counter = change.start;
@@ -61,7 +61,7 @@ fn push_operations<'a>(all: &mut Vec<Numbered<'a>>, change: &'a Change) -> Resul
 
 /// The operations of each of the changes.
 pub fn gather<'a>(alloc: Global, changes: &'a [Change]) -> Result<Vec<Numbered<'a>>, AllocError>
-    requires numbers { All GoodNumbers changes.now }
+    requires room { All HasRoom changes.now }
     ensures { IfOk result (λ all. map operation_of all.items ≡ all_operations changes.now) }
 {
     let mut all = Vec::new(alloc);

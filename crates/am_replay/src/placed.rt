@@ -72,7 +72,8 @@ fn place_all<'a>(alloc: Global, operations: &[Numbered<'a>], states: &[Option<i1
     Ok(found)
 }
 
-fn compare_objects(a: &ObjId, b: &ObjId) -> Ordering
+/// The root first, then by id.
+pub fn compare_objects(a: &ObjId, b: &ObjId) -> Ordering
     ensures { result ≡ object_cmp a.now b.now }
 {
     match (a, b) {

@@ -4,11 +4,11 @@ use Rattle.am_replay.specs.Numbered.{operation_of}
 use Rattle.am_replay.specs.Placed.{entries_in}
 use Rattle.am_replay.specs.Sound.{Sound}
 use Rattle.am_replay.proofs.Agreeing.{entries_are}
-use Rattle.am_replay.proofs.Validity.{good_numbers, sound_set}
+use Rattle.am_replay.proofs.Validity.{have_room, sound_set}
 use Rattle.am_replay.proofs.visible.replay.Goals as goal
 
 pub gather-requires : goal.gather-requires
-gather-requires c = record { numbers = good_numbers c.args.changes.now c.requires }
+gather-requires c = record { room = have_room c.args.changes.now c.requires }
 
 pub read-requires : goal.read-requires
 read-requires c =
