@@ -11,3 +11,4 @@ pub mod Agreeing
 pub mod Validity
 pub mod Strictly
 pub mod InOrder
+pub mod Checking

@@ -125,12 +125,12 @@ weaker : (p q : OpId) (rs : List OpId) → id_cmp p q ≡ Less → AllByRecursio
 weaker p q [] f b = tt
 weaker p q (r ∷ rs) f b = (id_total.trans p q r f b.0, weaker p q rs f b.1)
 
-ascends_tail : (p : OpId) (ps : List OpId) → Ascends id_cmp (p ∷ ps) → Ascends id_cmp ps
+pub ascends_tail : (p : OpId) (ps : List OpId) → Ascends id_cmp (p ∷ ps) → Ascends id_cmp ps
 ascends_tail p ps a k d l =
     let e : suc k + 1 ≡ suc (k + 1) = omega arith in
     subst (λ n. id_cmp (get_or ps k d) (get_or (p ∷ ps) n d) ≡ Less) e (a (suc k) d (omega arith))
 
-all_less : (p : OpId) (ps : List OpId) → Ascends id_cmp (p ∷ ps) → AllByRecursion (λ q. id_cmp p q ≡ Less) ps
+pub all_less : (p : OpId) (ps : List OpId) → Ascends id_cmp (p ∷ ps) → AllByRecursion (λ q. id_cmp p q ≡ Less) ps
 all_less p [] a = tt
 all_less p (q ∷ ps) a =
     let first : id_cmp p q ≡ Less = a 0 p (omega arith) in
@@ -140,7 +140,7 @@ none_same : (p : OpId) (ps : List OpId) → AllByRecursion (λ q. id_cmp p q ≡
 none_same p [] b = tt
 none_same p (q ∷ ps) b = (less_apart p q b.0, none_same p ps b.1)
 
-ascends_distinct : (ps : List OpId) → Ascends id_cmp ps → AreDistinct ps
+pub ascends_distinct : (ps : List OpId) → Ascends id_cmp ps → AreDistinct ps
 ascends_distinct [] a = tt
 ascends_distinct (p ∷ ps) a = (none_same p ps (all_less p ps a), ascends_distinct ps (ascends_tail p ps a))
 

@@ -2,72 +2,159 @@
 use am_types::{ActorId, Bytes, Change, Key, List, ObjId, Op, OpId, RawValue, Text};
 use std::alloc::{AllocError, Global};
 
-/// The author of the notes.
-pub const AUTHOR: [u8; 16] = [0x11; 16];
-const SECOND: [u8; 16] = [0x22; 16];
-const THIRD: [u8; 16] = [0x33; 16];
+/// An operation: the counter of its object or 0 for the root; a name, or none and then the counter of an element or 0 for
+/// the front; its action, the kind and the bytes of its value; the counter of a predecessor, or 0. It is an insertion where
+/// it has neither a name nor a predecessor. All that it names was made by the author of the first change.
+pub type Spec = (u64, &'static str, u64, u8, u8, &'static [u8], u64);
+
+/// A change: who made it, where its counters start, and its operations.
+pub type Sample = (&'static [u8], u64, &'static [Spec]);
+
+const AUTHOR: &[u8] = &[0x11; 16];
 
 /// The letters of the notes, over and over.
-pub const LETTERS: [u8; 10] = *b"abcdefghij";
+pub const LETTERS: [&[u8]; 10] = [b"a", b"b", b"c", b"d", b"e", b"f", b"g", b"h", b"i", b"j"];
 
-fn actor(alloc: Global, bytes: &[u8]) -> Result<ActorId, AllocError> {
-    match ActorId::of(alloc, bytes) {
-        Ok(actor) => Ok(actor),
+/// A text, and a letter that each of two others put into it.
+pub const TEXTS: [Sample; 3] = [
+    (&[0xaa], 1, &[(0, "t", 0, 4, 0, b"", 0), (1, "", 0, 1, 6, b"a", 0), (1, "", 2, 1, 6, b"b", 0)]),
+    (&[0xbb], 4, &[(1, "", 2, 1, 6, b"x", 0)]),
+    (&[0xcc], 4, &[(1, "", 2, 1, 6, b"y", 0)]),
+];
+
+/// A counter, two increments, its deletion; then the greatest counter, and an increment of that.
+pub const COUNTERS: [Sample; 6] = [
+    (&[0xaa], 1, &[(0, "n", 0, 1, 8, &[0x0a], 0)]),
+    (&[0xbb], 2, &[(0, "n", 0, 5, 4, &[0x05], 1)]),
+    (&[0xcc], 2, &[(0, "n", 0, 5, 4, &[0x7d], 1)]),
+    (&[0xaa], 3, &[(0, "n", 0, 3, 0, b"", 1)]),
+    (&[0xaa], 1, &[(0, "n", 0, 1, 8, &[0xff, 0xff, 0xff, 0xff, 0xff, 0xff, 0xff, 0xff, 0xff, 0], 0)]),
+    (&[0xbb], 2, &[(0, "n", 0, 5, 4, &[0x05], 1)]),
+];
+
+/// Two values that were set at the same time; then an overwrite of the first, and its deletion.
+pub const VALUES: [Sample; 4] = [
+    (&[0xaa], 1, &[(0, "a", 0, 1, 3, &[1], 0)]),
+    (&[0xbb], 1, &[(0, "a", 0, 1, 3, &[2], 0)]),
+    (&[0xaa], 2, &[(0, "a", 0, 1, 3, &[2], 1)]),
+    (&[0xaa], 2, &[(0, "a", 0, 3, 0, b"", 1)]),
+];
+
+// A note up to its text, whose letters come next.
+const NOTE: [Spec; 7] = [
+    (0, "title", 0, 1, 6, b"Notes", 0),
+    (0, "items", 0, 2, 0, b"", 0),
+    (2, "", 0, 0, 0, b"", 0),
+    (3, "name", 0, 1, 6, b"milk", 0),
+    (3, "count", 0, 1, 8, &[2], 0),
+    (3, "at", 0, 1, 9, &[0x80, 0xd0, 0x95, 0xff, 0xbc, 0x31], 0),
+    (0, "body", 0, 4, 0, b"", 0),
+];
+
+const RATIO: Spec = (0, "ratio", 0, 1, 5, &[0, 0, 0, 0, 0, 0, 0xf8, 0x3f], 0);
+
+/// What two others changed in the note: the first also deletes ten letters, the second marks some.
+pub const EDITS: [Sample; 2] = [
+    (
+        &[0x22; 16],
+        2009,
+        &[
+            (0, "title", 0, 1, 6, b"Shopping", 1),
+            (3, "count", 0, 5, 4, &[3], 5),
+            (7, "", 8, 3, 0, b"", 8),
+            (7, "", 9, 3, 0, b"", 9),
+            (7, "", 10, 3, 0, b"", 10),
+            (7, "", 11, 3, 0, b"", 11),
+            (7, "", 12, 3, 0, b"", 12),
+            (7, "", 13, 3, 0, b"", 13),
+            (7, "", 14, 3, 0, b"", 14),
+            (7, "", 15, 3, 0, b"", 15),
+            (7, "", 16, 3, 0, b"", 16),
+            (7, "", 17, 3, 0, b"", 17),
+        ],
+    ),
+    (
+        &[0x33; 16],
+        2009,
+        &[
+            (0, "title", 0, 1, 6, b"Notes!", 1),
+            (7, "", 17, 7, 2, b"", 0),
+            (7, "", 27, 7, 0, b"", 0),
+        ],
+    ),
+];
+
+fn id(alloc: Global, by: &[u8], counter: u64) -> Result<OpId, AllocError> {
+    match ActorId::of(alloc, by) {
+        Ok(actor) => Ok(OpId { counter, actor }),
         Err(_) => Err(AllocError),
     }
 }
 
-fn id(alloc: Global, counter: u64, by: &[u8]) -> Result<OpId, AllocError> {
-    let actor = actor(alloc, by)?;
-    Ok(OpId { counter, actor })
+fn object(alloc: Global, by: &[u8], counter: u64) -> Result<ObjId, AllocError> {
+    if counter == 0 {
+        Ok(ObjId::Root)
+    } else {
+        Ok(ObjId::Made(id(alloc, by, counter)?))
+    }
 }
 
-fn made(alloc: Global, counter: u64, by: &[u8]) -> Result<ObjId, AllocError> {
-    Ok(ObjId::Made(id(alloc, counter, by)?))
+fn key(alloc: Global, by: &[u8], name: &str, counter: u64) -> Result<Key, AllocError> {
+    if !name.is_empty() {
+        let mut text = Text::new(alloc);
+        text.push_str(name)?;
+        Ok(Key::Name(text))
+    } else if counter == 0 {
+        Ok(Key::Head)
+    } else {
+        Ok(Key::Elem(id(alloc, by, counter)?))
+    }
 }
 
-fn element(alloc: Global, counter: u64, by: &[u8]) -> Result<Key, AllocError> {
-    Ok(Key::Elem(id(alloc, counter, by)?))
-}
-
-fn name(alloc: Global, name: &str) -> Result<Key, AllocError> {
-    let mut text = Text::new(alloc);
-    text.push_str(name)?;
-    Ok(Key::Name(text))
-}
-
-fn pred(alloc: Global, counter: u64, by: &[u8]) -> Result<List<OpId>, AllocError> {
+fn preds(alloc: Global, by: &[u8], counter: u64) -> Result<List<OpId>, AllocError> {
     let mut preds = List::new(alloc);
-    preds.push(id(alloc, counter, by)?)?;
+    if counter > 0 {
+        preds.push(id(alloc, by, counter)?)?;
+    }
     Ok(preds)
 }
 
-// An operation; an insertion where its key is no name and it has no predecessors.
-fn op(alloc: Global, obj: ObjId, key: Key, action: u8, value: (u8, &[u8]), preds: List<OpId>) -> Result<Op, AllocError> {
+fn value(alloc: Global, kind: u8, bytes: &[u8]) -> Result<RawValue, AllocError> {
     let mut raw = Bytes::new(alloc);
-    raw.push_slice(value.1)?;
-    let insert = preds.len() == 0
-        && match &key {
-            Key::Name(_) => false,
-            _ => true,
-        };
+    raw.push_slice(bytes)?;
+    Ok(RawValue { kind, raw })
+}
+
+fn op(alloc: Global, by: &[u8], spec: &Spec) -> Result<Op, AllocError> {
+    let (made, name, counter, action, kind, bytes, named) = *spec;
+    let obj = object(alloc, by, made)?;
+    let key = key(alloc, by, name, counter)?;
+    let value = value(alloc, kind, bytes)?;
+    let preds = preds(alloc, by, named)?;
     Ok(Op {
         obj,
         key,
-        insert,
+        insert: name.is_empty() && named == 0,
         action,
-        value: RawValue { kind: value.0, raw },
+        value,
         preds,
         expand: false,
         mark: None,
     })
 }
 
+fn push_ops(alloc: Global, by: &[u8], ops: &mut List<Op>, specs: &[Spec]) -> Result<(), AllocError> {
+    for spec in specs {
+        ops.push(op(alloc, by, spec)?)?;
+    }
+    Ok(())
+}
+
 fn change(alloc: Global, by: &[u8], start: u64, ops: List<Op>) -> Result<Change, AllocError> {
-    let actor = actor(alloc, by)?;
+    let id = id(alloc, by, start)?;
     Ok(Change {
         deps: List::new(alloc),
-        actor,
+        actor: id.actor,
         seq: 1,
         start,
         time: 0,
@@ -77,124 +164,33 @@ fn change(alloc: Global, by: &[u8], start: u64, ops: List<Op>) -> Result<Change,
     })
 }
 
-// A change with one operation on the root.
-fn one(alloc: Global, by: &[u8], start: u64, key: &str, action: u8, value: (u8, &[u8]), preds: List<OpId>) -> Result<Change, AllocError> {
+/// The change, beside the author of the first one.
+pub fn change_of(alloc: Global, first: &[u8], sample: &Sample) -> Result<Change, AllocError> {
+    let (by, start, specs) = *sample;
     let mut ops = List::new(alloc);
-    ops.push(op(alloc, ObjId::Root, name(alloc, key)?, action, value, preds)?)?;
+    push_ops(alloc, first, &mut ops, specs)?;
     change(alloc, by, start, ops)
 }
 
-// A letter behind the first one of a text, by someone else at the same time.
-fn letter(alloc: Global, by: &[u8], letter: &[u8]) -> Result<Change, AllocError> {
-    let mut ops = List::new(alloc);
-    ops.push(op(alloc, made(alloc, 1, &[0xaa])?, element(alloc, 2, &[0xaa])?, 1, (6, letter), List::new(alloc))?)?;
-    change(alloc, by, 4, ops)
-}
-
-// A text with two letters.
-fn text(alloc: Global) -> Result<Change, AllocError> {
-    let by = &[0xaa][..];
-    let mut ops = List::new(alloc);
-    ops.push(op(alloc, ObjId::Root, name(alloc, "t")?, 4, (0, &[]), List::new(alloc))?)?;
-    ops.push(op(alloc, made(alloc, 1, by)?, Key::Head, 1, (6, b"a"), List::new(alloc))?)?;
-    ops.push(op(alloc, made(alloc, 1, by)?, element(alloc, 2, by)?, 1, (6, b"b"), List::new(alloc))?)?;
-    change(alloc, by, 1, ops)
-}
-
-/// A text, and a letter that each of two others put into it.
-pub fn text_change(alloc: Global, number: u8) -> Result<Change, AllocError> {
-    match number {
-        1 => text(alloc),
-        2 => letter(alloc, &[0xbb], b"x"),
-        _ => letter(alloc, &[0xcc], b"y"),
-    }
-}
-
-/// A counter, two increments, its deletion; then the greatest counter, and an increment of that.
-pub fn counter_change(alloc: Global, number: u8) -> Result<Change, AllocError> {
-    let first = pred(alloc, 1, &[0xaa])?;
-    let greatest = &[0xff, 0xff, 0xff, 0xff, 0xff, 0xff, 0xff, 0xff, 0xff, 0x00][..];
-    match number {
-        1 => one(alloc, &[0xaa], 1, "n", 1, (8, &[0x0a]), List::new(alloc)),
-        2 | 6 => one(alloc, &[0xbb], 2, "n", 5, (4, &[0x05]), first),
-        3 => one(alloc, &[0xcc], 2, "n", 5, (4, &[0x7d]), first),
-        4 => one(alloc, &[0xaa], 3, "n", 3, (0, &[]), first),
-        _ => one(alloc, &[0xaa], 1, "n", 1, (8, greatest), List::new(alloc)),
-    }
-}
-
-/// Two values that were set at the same time; then an overwrite of the first, and its deletion.
-pub fn value_change(alloc: Global, number: u8) -> Result<Change, AllocError> {
-    let first = pred(alloc, 1, &[0xaa])?;
-    match number {
-        1 => one(alloc, &[0xaa], 1, "a", 1, (3, &[0x01]), List::new(alloc)),
-        2 => one(alloc, &[0xbb], 1, "a", 1, (3, &[0x02]), List::new(alloc)),
-        3 => one(alloc, &[0xaa], 2, "a", 1, (3, &[0x02]), first),
-        _ => one(alloc, &[0xaa], 2, "a", 3, (0, &[]), first),
-    }
-}
-
 fn push_letters(alloc: Global, ops: &mut List<Op>) -> Result<(), AllocError> {
-    let by = &AUTHOR[..];
     for i in 0..2000u64 {
-        let key = if i == 0 {
-            Key::Head
-        } else {
-            element(alloc, 7 + i, by)?
-        };
-        let letter = [LETTERS[(i % 10) as usize]];
-        ops.push(op(alloc, made(alloc, 7, by)?, key, 1, (6, &letter), List::new(alloc))?)?;
+        let behind = if i == 0 { 0 } else { 7 + i };
+        let spec: Spec = (7, "", behind, 1, 6, LETTERS[(i % 10) as usize], 0);
+        ops.push(op(alloc, AUTHOR, &spec)?)?;
     }
     Ok(())
 }
 
-fn first_note(alloc: Global) -> Result<Change, AllocError> {
-    let by = &AUTHOR[..];
+/// A note with a text of 2,000 letters.
+pub fn note(alloc: Global) -> Result<Change, AllocError> {
     let mut ops = List::new(alloc);
-    ops.push(op(alloc, ObjId::Root, name(alloc, "title")?, 1, (6, b"Notes"), List::new(alloc))?)?;
-    ops.push(op(alloc, ObjId::Root, name(alloc, "items")?, 2, (0, &[]), List::new(alloc))?)?;
-    ops.push(op(alloc, made(alloc, 2, by)?, Key::Head, 0, (0, &[]), List::new(alloc))?)?;
-    push_item(alloc, &mut ops)?;
-    ops.push(op(alloc, ObjId::Root, name(alloc, "body")?, 4, (0, &[]), List::new(alloc))?)?;
+    push_ops(alloc, AUTHOR, &mut ops, &NOTE)?;
     push_letters(alloc, &mut ops)?;
-    ops.push(op(alloc, ObjId::Root, name(alloc, "ratio")?, 1, (5, &[0, 0, 0, 0, 0, 0, 0xf8, 0x3f]), List::new(alloc))?)?;
-    change(alloc, by, 1, ops)
+    push_ops(alloc, AUTHOR, &mut ops, &[RATIO])?;
+    change(alloc, AUTHOR, 1, ops)
 }
 
-fn push_item(alloc: Global, ops: &mut List<Op>) -> Result<(), AllocError> {
-    let by = &AUTHOR[..];
-    let at = &[0x80, 0xd0, 0x95, 0xff, 0xbc, 0x31][..];
-    ops.push(op(alloc, made(alloc, 3, by)?, name(alloc, "name")?, 1, (6, b"milk"), List::new(alloc))?)?;
-    ops.push(op(alloc, made(alloc, 3, by)?, name(alloc, "count")?, 1, (8, &[0x02]), List::new(alloc))?)?;
-    ops.push(op(alloc, made(alloc, 3, by)?, name(alloc, "at")?, 1, (9, at), List::new(alloc))?)?;
-    Ok(())
-}
-
-fn second_note(alloc: Global) -> Result<Change, AllocError> {
-    let by = &AUTHOR[..];
-    let mut ops = List::new(alloc);
-    ops.push(op(alloc, ObjId::Root, name(alloc, "title")?, 1, (6, b"Shopping"), pred(alloc, 1, by)?)?)?;
-    ops.push(op(alloc, made(alloc, 3, by)?, name(alloc, "count")?, 5, (4, &[0x03]), pred(alloc, 5, by)?)?)?;
-    for k in 8..18 {
-        ops.push(op(alloc, made(alloc, 7, by)?, element(alloc, k, by)?, 3, (0, &[]), pred(alloc, k, by)?)?)?;
-    }
-    change(alloc, &SECOND, 2009, ops)
-}
-
-fn third_note(alloc: Global) -> Result<Change, AllocError> {
-    let by = &AUTHOR[..];
-    let mut ops = List::new(alloc);
-    ops.push(op(alloc, ObjId::Root, name(alloc, "title")?, 1, (6, b"Notes!"), pred(alloc, 1, by)?)?)?;
-    ops.push(op(alloc, made(alloc, 7, by)?, element(alloc, 17, by)?, 7, (2, &[]), List::new(alloc))?)?;
-    ops.push(op(alloc, made(alloc, 7, by)?, element(alloc, 27, by)?, 7, (0, &[]), List::new(alloc))?)?;
-    change(alloc, &THIRD, 2009, ops)
-}
-
-/// A note with a text of 2,000 letters, and what two others changed in it.
-pub fn note_change(alloc: Global, number: u8) -> Result<Change, AllocError> {
-    match number {
-        1 => first_note(alloc),
-        2 => second_note(alloc),
-        _ => third_note(alloc),
-    }
+/// An edit of the note.
+pub fn edit(alloc: Global, sample: &Sample) -> Result<Change, AllocError> {
+    change_of(alloc, AUTHOR, sample)
 }
