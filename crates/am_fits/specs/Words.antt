@@ -1,13 +1,10 @@
 -- How an index keeps ids, objects and slots: texts stand once in a list, and are known by their places there.
---     texts_of s          the texts of a set of texts
 --     text_at ts n        the text with the number n, or the empty one
 --     Grows old new       each text keeps its number
 --     Words               the actors and the names of an index
 --     id_in w k, object_in w k, slot_in w k, fact_in w k     what a key means
 --     IsIdOf w k i ..     k is the key of the id i
-use Rattle.std.specs.Prelude.{ℕ, ◌≡◌, Bool, List, [], map, All, Option, Some, None, slice_index_or, ⊤}
-use Rattle.std.specs.HashSet.{HashSet}
-use Rattle.std.specs.declared.vec.Vec.{Vec}
+use Rattle.std.specs.Prelude.{ℕ, ◌≡◌, List, [], map, All, Some, slice_index_or, ⊤}
 use Rattle.am_types.specs.declared.OpId.{OpId}
 use Rattle.am_types.specs.declared.ObjId.{ObjId}
 use Rattle.am_types.specs.declared.ObjId.TheVariants as object
@@ -98,5 +95,8 @@ IsKept w e = IsIdOf w e.0 (id_in w e.0) × IsFactOf w e.1 (fact_in w e.1)
 abbrev pub facts_in : Table → List (OpId × Fact)
 facts_in t = map (entry_in (words_of t.texts)) t.kept.entries
 
+pub record AreKept (w : Words) (es : List (IdKey × Kept)) : Type 0 where
+  pub each : All (IsKept w) es
+
 abbrev pub IsTable : Table → Type 0
-IsTable t = All (IsKept (words_of t.texts)) t.kept.entries
+IsTable t = AreKept (words_of t.texts) t.kept.entries
