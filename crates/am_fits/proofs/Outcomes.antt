@@ -1,11 +1,15 @@
 -- What each step of the judgement says of the verdict.
-use Rattle.std.proofs.Common.{ℕ, ◌≡◌, List, [], ◌∷◌, true, false, Option, Some, None, option_map, refl, sym, ap, ◌∙◌, subst, ◌<◌, length}
+use Rattle.std.proofs.Common.{ℕ, ◌≡◌, List, [], ◌∷◌, true, false, not, Option, Some, None, option_map, refl, sym, ap, ◌∙◌, subst, ◌<◌, length}
 use Rattle.std.specs.Bool.{then_some}
 use Rattle.am_types.specs.declared.Hash.{Hash}
 use Rattle.am_types.specs.declared.Change.{Change}
 use Rattle.am_types.specs.declared.Limit.{Limit}
 use Rattle.am_types.specs.declared.Verdict.TheVariants.{Fits, SeqClash, SeqGap, StartLow, BadReference, Full}
-use Rattle.am_types.specs.Members.{Member, changes}
+use Rattle.am_types.specs.Members.{Member, changes, holds, holds_deps}
+use Rattle.std.proofs.lemmas.Bool.{both_ways}
+use Rattle.std.proofs.lemmas.List.Elements.{All-contains}
+use Rattle.std.proofs.lemmas.List.Sums.{AllPass-from_list_all}
+use Rattle.am_graph.proofs.Held.{held_of_set}
 use Rattle.am_types.specs.Ancestors.{ancestors}
 use Rattle.am_types.specs.ValidSets.{Valid}
 use Rattle.am_types.specs.Verdicts.{verdict, seq_clash, seq_gap, start_low, bad_reference, full, limit_passed}
@@ -13,12 +17,12 @@ use Rattle.am_types.proofs.Listed.{Facts}
 use Rattle.am_graph.specs.declared.node.Node.{Node}
 use Rattle.am_graph.specs.declared.reach.Reach.{Reach}
 use Rattle.am_graph.specs.Clocks.{IsClockOf}
-use Rattle.am_graph.specs.Graphs.{ForSet, having, IsLeast, nodes}
+use Rattle.am_graph.specs.Graphs.{ForSet, having, is_held, missing, IsLeast, nodes}
 use Rattle.am_graph.proofs.ValidFacts.{valid_facts}
 use Rattle.am_fits.specs.Indexes.{Indexed, AreOf}
 use Rattle.am_fits.specs.Sums.{totals_with, limit_of}
 use Rattle.am_fits.specs.Told.{IsGoodAt, IsFirstBad}
-use Rattle.am_fits.proofs.SeqLaws.{gap_told, low_told, clash_is, gap_is, low_is}
+use Rattle.am_fits.proofs.SeqLaws.{find_passes, gap_told, low_told, clash_is, gap_is, low_is}
 use Rattle.am_fits.proofs.Sums.{limit_is}
 use Rattle.am_fits.proofs.Telling.{bad_found, bad_none}
 
@@ -83,3 +87,10 @@ module _ (g : List (Hash × Node)) (ix : Indexed) (c : Change) (C : List Member)
           pub by_none : None ≡ limit_of (totals_with ix.totals c) → Fits ≡ verdict C c
           unfolding verdict
           by_none e = let f = sym (limit_by None e) in rw (clash_none, gap_none, low_none, references_none, f) refl
+
+-- where the dependencies are held, none is missing
+pub nothing_missing : (g : List (Hash × Node)) (ix : Indexed) (c : Change) (C : List Member) → AreOf C g ix → holds_deps C c ≡ true → (h : Hash) → missing g c.deps ≡ Some h → ⊥
+nothing_missing g ix c C are held h e =
+    let p = find_passes (λ h. not (is_held g h)) c.deps h e in
+    let t : is_held g h ≡ true = held_of_set g C h are.graph ∙ All-contains (λ h. holds C h ≡ true) c.deps h (AllPass-from_list_all (holds C) c.deps held) p.0 in
+    both_ways false refl (sym (ap not t) ∙ p.1)

@@ -31,7 +31,7 @@ use Rattle.am_graph.specs.Graphs.{nodes, having, IsLeast}
 
 -- ---- lists
 
-find_passes : {X : Type 0} (p : X → Bool) (xs : List X) (x : X) → find p xs ≡ Some x → Contains xs x × (p x ≡ true)
+pub find_passes : {X : Type 0} (p : X → Bool) (xs : List X) (x : X) → find p xs ≡ Some x → Contains xs x × (p x ≡ true)
 find_passes p [] x e = absurd (no e)
   where
     no : None ≡ Some x → ⊥
