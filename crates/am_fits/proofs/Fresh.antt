@@ -1,12 +1,11 @@
 -- A change that is a valid set together with others brings new ids, and keeps the limits.
-use Rattle.std.proofs.Common.{ℕ, ◌≡◌, ◌≢◌, ◌+◌, ◌-◌, ◌<◌, ◌≤◌, ◌^◌, List, [], ◌∷◌, ◌++◌, length, get_or, map, Option, Some, None, refl, sym, ap, ◌∙◌, subst, All, Contains, arith}
+use Rattle.std.proofs.Common.{ℕ, ◌≡◌, ◌+◌, ◌<◌, ◌≤◌, ◌^◌, List, [], ◌∷◌, ◌++◌, length, get_or, Option, Some, None, refl, sym, ap, ◌∙◌, subst, All, Contains, arith}
 use Rattle.std.proofs.lemmas.List.{map-append, flat_map_more, get_or_append_left, get_or-append-add, get_or_default, length-append}
 use Rattle.std.proofs.lemmas.List.Elements.{All-contains, Contains-push}
-use Rattle.am_types.specs.declared.OpId.{OpId}
 use Rattle.am_types.specs.declared.Change.{Change}
 use Rattle.am_types.specs.Fine.{Fine}
 use Rattle.am_types.specs.Operations.{Operation, operations, all_operations, DistinctIds, max}
-use Rattle.am_types.specs.Members.{Member, changes}
+use Rattle.am_types.specs.Members.{Member}
 use Rattle.am_types.specs.Deliver.{MayCome}
 use Rattle.am_types.proofs.DistinctOperations.{distinct_ids_valid}
 use Rattle.am_types.proofs.Orders.{same_id-true}

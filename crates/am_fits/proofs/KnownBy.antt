@@ -1,5 +1,5 @@
 -- A test of the ancestors' operation with some id is answered by the facts of the whole set and by the clock.
-use Rattle.std.proofs.Common.{ℕ, zero, suc, ◌≡◌, ◌<◌, List, [], ◌∷◌, ◌++◌, length, get_or, map, Bool, true, false, ◌&&◌, Option, Some, None, cond, refl, sym, ap, ◌∙◌, subst, inl, inr, Contains, arith}
+use Rattle.std.proofs.Common.{ℕ, zero, suc, ◌≡◌, ◌<◌, List, [], ◌∷◌, ◌++◌, length, get_or, Bool, true, false, ◌&&◌, Option, Some, None, cond, refl, sym, ap, ◌∙◌, subst, inl, inr, Contains, arith}
 use Rattle.std.specs.List.{list_any}
 use Rattle.std.specs.Option.{option_map_or}
 use Rattle.std.proofs.lemmas.Bool.{cases_Bool, both_ways, and_from, and_parts}
@@ -18,7 +18,7 @@ use Rattle.am_types.proofs.Lists.{Contains-head, Contains-tail}
 use Rattle.am_types.proofs.DistinctIds.{distinct_ids_of, operation_of, ancestor_is_member}
 use Rattle.am_graph.specs.Clocks.{Covers}
 use Rattle.am_graph.proofs.Covered.{covered_is_ancestor, ancestor_is_covered}
-use Rattle.am_fits.specs.Facts.{Fact, fact_of, facts, facts_of, fact_with}
+use Rattle.am_fits.specs.Facts.{Fact, fact_of, facts, fact_with}
 
 -- what is found with an id is the fact of an operation with it
 pub fact_found : (xs : List Operation) (i : OpId) (f : Fact) → fact_with (facts xs) i ≡ Some f → (x : Operation) × Contains xs x × (same_id x.id i ≡ true) × (fact_of x ≡ f)

@@ -1,5 +1,5 @@
 -- What each step of the judgement says of the verdict.
-use Rattle.std.proofs.Common.{ℕ, ◌≡◌, List, [], ◌∷◌, true, false, not, Option, Some, None, option_map, refl, sym, ap, ◌∙◌, subst, ◌<◌, length}
+use Rattle.std.proofs.Common.{ℕ, ◌≡◌, List, true, false, not, Option, Some, None, option_map, refl, sym, ap, ◌∙◌, subst, ◌<◌, length}
 use Rattle.std.specs.Bool.{then_some}
 use Rattle.am_types.specs.declared.Hash.{Hash}
 use Rattle.am_types.specs.declared.Change.{Change}
@@ -12,12 +12,12 @@ use Rattle.std.proofs.lemmas.List.Sums.{AllPass-from_list_all}
 use Rattle.am_graph.proofs.Held.{held_of_set}
 use Rattle.am_types.specs.Ancestors.{ancestors}
 use Rattle.am_types.specs.ValidSets.{Valid}
-use Rattle.am_types.specs.Verdicts.{verdict, seq_clash, seq_gap, start_low, bad_reference, full, limit_passed}
+use Rattle.am_types.specs.Verdicts.{verdict, seq_clash, seq_gap, start_low, bad_reference, full}
 use Rattle.am_types.proofs.Listed.{Facts}
 use Rattle.am_graph.specs.declared.node.Node.{Node}
 use Rattle.am_graph.specs.declared.reach.Reach.{Reach}
 use Rattle.am_graph.specs.Clocks.{IsClockOf}
-use Rattle.am_graph.specs.Graphs.{ForSet, having, is_held, missing, IsLeast, nodes}
+use Rattle.am_graph.specs.Graphs.{ForSet, having, is_held, missing, IsLeast}
 use Rattle.am_graph.proofs.ValidFacts.{valid_facts}
 use Rattle.am_fits.specs.Indexes.{Indexed, AreOf}
 use Rattle.am_fits.specs.Sums.{totals_with, limit_of}

@@ -1,19 +1,18 @@
 -- What the graph says of seqs and starts is what the definition of the verdict asks.
-use Rattle.std.proofs.Common.{ℕ, zero, suc, ◌≡◌, ◌+◌, ◌-◌, ◌<◌, ◌≤◌, ◌==◌, List, [], ◌∷◌, ◌++◌, length, get_or, map, filter, find, fold, max as larger, Bool, true, false, not, ◌&&◌, nat_le, nat_lt, Option, Some, None, option_map, cond, refl, sym, ap, ◌∙◌, subst, inl, inr, ◌⊎◌, All, Contains, arith}
+use Rattle.std.proofs.Common.{ℕ, zero, suc, ◌≡◌, ◌+◌, ◌-◌, ◌<◌, ◌≤◌, ◌==◌, List, [], ◌∷◌, length, get_or, map, filter, find, fold, max as larger, Bool, true, false, not, ◌&&◌, nat_le, nat_lt, Option, Some, None, option_map, cond, refl, sym, ap, ◌∙◌, subst, inl, inr, ◌⊎◌, Contains, arith}
 use Rattle.std.specs.List.{list_any}
 use Rattle.std.specs.Bool.{then_some}
 use Rattle.std.specs.Option.{option_map_or}
-use Rattle.std.proofs.lemmas.Bool.{cases_Bool, cases_lt, both_ways, and_from, and_parts, eqb-true, lt-ltb, le-ltb, le-leb, leb-true, false_from_ne_true}
+use Rattle.std.proofs.lemmas.Bool.{cases_Bool, cases_lt, both_ways, and_from, and_parts, eqb-true, lt-ltb, le-ltb, false_from_ne_true}
 use Rattle.std.proofs.lemmas.Cmp.{nat_list_eq_equiv, nat_eq_equiv}
 use Rattle.std.proofs.lemmas.List.Elements.{All-contains}
 use Rattle.std.proofs.lemmas.List.Folds.{list_any-from_Any, Any-from_list_any}
 use Rattle.am_types.specs.declared.Hash.{Hash}
 use Rattle.am_types.specs.declared.Change.{Change}
 use Rattle.am_types.specs.declared.Verdict.TheVariants.{SeqClash, SeqGap, StartLow}
-use Rattle.am_types.specs.Order.{hash_cmp, same, among}
+use Rattle.am_types.specs.Order.{hash_cmp, same}
 use Rattle.am_types.specs.Same.{same_bytes}
 use Rattle.am_types.specs.Operations.{max}
-use Rattle.am_types.specs.Canonical.{largest}
 use Rattle.am_types.specs.Members.{Member, member}
 use Rattle.am_types.specs.Ancestors.{ancestors}
 use Rattle.am_types.specs.Verdicts.{has_seq, seq_clash, seq_gap, start_low}
@@ -182,8 +181,14 @@ module _ (C : List Member) (is : Facts C) (hs : List Hash) where
             let s : n.change.seq ≡ last_seq A x = f.2 in
             let p = down t (n.change.seq - t) n k.0 (omega arith) one in
             let q = p.1 in
-            list_any-from_Any (has_seq x t) A (q.0, p.0, q.1, q.2, and_from (same_bytes p.0.change.actor x) (p.0.change.seq == t)
-            (ap (λ a. same_bytes a x) p.2 ∙ k.1) (ap (λ s. s == t) p.3 ∙ nat_eq_itself t))
+            list_any-from_Any (has_seq x t) A (
+              q.0,
+              p.0,
+              q.1,
+              q.2,
+              and_from (same_bytes p.0.change.actor x) (p.0.change.seq == t)
+                  (ap (λ a. same_bytes a x) p.2 ∙ k.1) (ap (λ s. s == t) p.3 ∙ nat_eq_itself t),
+            )
       ]
     where
       nat_eq_itself : (n : ℕ) → (n == n) ≡ true

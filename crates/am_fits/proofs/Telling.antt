@@ -1,7 +1,6 @@
 -- What the clock and the facts tell is what the definition of good references asks.
-use Rattle.std.proofs.Common.{ℕ, ◌≡◌, ◌<◌, ◌==◌, List, [], ◌∷◌, ◌++◌, length, get_or, take, Bool, true, false, not, ◌&&◌, ◌||◌, Some, None, refl, sym, ap, ◌∙◌, subst, IsTrue, arith}
+use Rattle.std.proofs.Common.{ℕ, ◌≡◌, ◌<◌, ◌==◌, List, [], ◌∷◌, ◌++◌, length, get_or, take, Bool, true, false, not, ◌&&◌, ◌||◌, Some, None, refl, ap, ◌∙◌, arith}
 use Rattle.std.specs.List.{list_any, list_all}
-use Rattle.std.specs.Option.{option_map_or}
 use Rattle.std.proofs.lemmas.List.Folds.{list_any-append}
 use Rattle.am_types.specs.declared.OpId.{OpId}
 use Rattle.am_types.specs.declared.ObjId.{ObjId}
@@ -19,10 +18,10 @@ use Rattle.am_types.proofs.Listed.{Facts}
 use Rattle.am_graph.specs.declared.reach.Reach.{Reach}
 use Rattle.am_graph.specs.Clocks.{covers, IsClockOf}
 use Rattle.am_fits.specs.Facts.{Fact, fact_of, facts_of}
-use Rattle.am_fits.specs.Told.{Telling, object_by, element_by, preds_by, good_by, inserts, gives_to, told, own, own_fact, IsGoodAt, IsBadAt, IsFirstBad}
+use Rattle.am_fits.specs.Told.{Telling, object_by, element_by, good_by, inserts, gives_to, told, own, IsGoodAt, IsFirstBad}
 use Rattle.am_fits.proofs.KnownBy.{known_by}
 use Rattle.am_fits.proofs.OwnOperations.{any_own, own_get, length-operations}
-use Rattle.am_fits.proofs.FirstBad.{GoodAt, BadAt, first_bad_found, first_bad_none}
+use Rattle.am_fits.proofs.FirstBad.{first_bad_found, first_bad_none}
 
 -- ---- by the operations themselves
 

@@ -1,4 +1,4 @@
-use Rattle.std.proofs.Common.{ℕ, ◌≡◌, ◌∙◌, ◌<◌, ◌≤◌, List, [], length, find, Bool, false, nat_le, ap, sym, arith}
+use Rattle.std.proofs.Common.{ℕ, ◌∙◌, ◌≤◌, List, [], length, find, Bool, false, nat_le, ap, sym, arith}
 use Rattle.std.specs.Option.{option_map_or}
 use Rattle.am_types.specs.declared.Hash.{Hash}
 use Rattle.am_types.specs.Members.{Member, member}

@@ -1,4 +1,4 @@
-use Rattle.std.proofs.Common.{ℕ, ◌≡◌, List, false, nat_le}
+use Rattle.std.proofs.Common.{◌≡◌, List, false, nat_le}
 use Rattle.std.specs.List.{AllWithin}
 use Rattle.std.specs.Option.{option_map_or}
 use Rattle.am_types.specs.Members.{Member, member}
