@@ -1,0 +1,9 @@
+//! Deliveries of changes to a closed and a waiting set: their laws, and one call that carries a delivery out.
+#![tactic(auto)]
+
+mod laws;
+
+pub use laws::{
+    both_come_back, comes_back, fits_in_every_listing, held_is_skipped, listing_is_free,
+    order_is_free, part_is_valid, rest_completes, stays_stored,
+};
