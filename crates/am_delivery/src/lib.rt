@@ -1,8 +1,11 @@
 //! Deliveries of changes to a closed and a waiting set: their laws, and one call that carries a delivery out.
 #![tactic(auto)]
 
+mod closed;
 mod laws;
+mod pending;
 
+pub use closed::Closed;
 pub use laws::{
     both_come_back, comes_back, fits_in_every_listing, held_is_skipped, listing_is_free,
     order_is_free, part_is_valid, rest_completes, stays_stored,
