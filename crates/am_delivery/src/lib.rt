@@ -1,6 +1,7 @@
 //! Deliveries of changes to a closed and a waiting set: their laws, and one call that carries a delivery out.
 #![tactic(auto)]
 
+mod admitting;
 mod closed;
 mod laws;
 mod pending;
