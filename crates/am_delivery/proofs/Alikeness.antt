@@ -92,6 +92,37 @@ unfolding settle
 settle_alike s t y a =
     subst (λ n. Alike (steps (length s.waiting) s) (steps n t)) (sym (length_permutation s.waiting t.waiting a.waiting)) (steps_alike (length s.waiting) s t y a)
 
+-- ---- closed sets that are listed alike stay so
+
+closed_by : (v : Verdict) (m : Member) (s t : Sets) → s.closed ≡ t.closed → (admit_by v m s).closed ≡ (admit_by v m t).closed
+closed_by Fits m s t e = ap (λ C. C ++ m ∷ []) e
+closed_by (SeqClash h) m s t e = e
+closed_by SeqGap m s t e = e
+closed_by (StartLow h) m s t e = e
+closed_by (BadReference i) m s t e = e
+closed_by (Full limit) m s t e = e
+
+steps_closed : (n : ℕ) (s t : Sets) → Steady s → Alike s t → s.closed ≡ t.closed → (steps n s).closed ≡ (steps n t).closed
+steps_closed zero s t y a e = e
+steps_closed (suc n) s t y a e =
+    let same_ready = ready_same s.closed t.closed s.waiting t.waiting a.closed y.distinct a.waiting in
+    elim (first_or_none (ready s.closed s.waiting)) [
+      | inl f ↦ subst (λ u. (steps n u).closed ≡ (steps n (step t)).closed) (sym (step_idle s f))
+          (subst (λ u. (steps n s).closed ≡ (steps n u).closed) (sym (step_idle t (sym same_ready ∙ f))) (steps_closed n s t y a e))
+      | inr f ↦
+          let m = f.0 in
+          let told : verdict s.closed m.change ≡ verdict t.closed m.change = ap (λ C. verdict C m.change) e in
+          let next : Alike (admit m s) (admit m t) = subst (λ v. Alike (admit m s) (admit_by v m t)) told (alike_by (verdict s.closed m.change) m s t y.distinct a) in
+          let closed : (admit m s).closed ≡ (admit m t).closed = subst (λ v. (admit m s).closed ≡ (admit_by v m t).closed) told (closed_by (verdict s.closed m.change) m s t e) in
+          subst (λ u. (steps n u).closed ≡ (steps n (step t)).closed) (sym (step_first s m f.1 f.2))
+          (subst (λ u. (steps n (admit m s)).closed ≡ (steps n u).closed) (sym (step_first t m f.1 (sym same_ready ∙ f.2))) (steps_closed n (admit m s) (admit m t) (steady_admit s m f.1 f.2 y) next closed))
+    ]
+
+pub settle_closed : (s t : Sets) → Steady s → Alike s t → s.closed ≡ t.closed → (settle s).closed ≡ (settle t).closed
+unfolding settle
+settle_closed s t y a e =
+    subst (λ n. (steps (length s.waiting) s).closed ≡ (steps n t).closed) (sym (length_permutation s.waiting t.waiting a.waiting)) (steps_closed (length s.waiting) s t y a e)
+
 both_unique : (s : Sets) → Steady s → Unique (s.closed ++ s.waiting)
 both_unique s y = unique (s.closed ++ s.waiting) (distinct_from_once (s.closed ++ s.waiting) (once_append s.closed s.waiting (good_valid s.closed y.valid).once (once_from_distinct s.waiting y.distinct) y.fresh))
 

@@ -271,8 +271,8 @@ order_is_free Ls D C W stand are none =
     let came : Came D (after Ls) = same_came E D (after Ls) w v r.0 in (
       greatest D none may_come (after Ls) came r.1 C stand.closed,
       λ m. let a = lacking D none may_come (after Ls) came r.1 m in
-      let e = deps_same (after Ls).closed C stand.closed m.change in (
-        λ c. let b = a.0 (Within-permutation_back (after Ls).waiting W stand.waiting m c) in (b.0, sym e ∙ b.1),
-        λ b. Within-permutation (after Ls).waiting W stand.waiting m (a.1 (b.0, e ∙ b.1)),
-      ),
+          let e = deps_same (after Ls).closed C stand.closed m.change in (
+            λ c. let b = a.0 (Within-permutation_back (after Ls).waiting W stand.waiting m c) in (b.0, sym e ∙ b.1),
+            λ b. Within-permutation (after Ls).waiting W stand.waiting m (a.1 (b.0, e ∙ b.1)),
+          ),
     )

@@ -1,5 +1,5 @@
 -- One step of settling, as the map of the waiting changes and the tracker have it.
-use Rattle.std.proofs.Common.{get_or, ℕ, count_by, ◌≤◌, ◌≡◌, ◌≢◌, List, [], ◌∷◌, ◌++◌, map, true, false, not, Option, Some, None, refl, sym, ap, ◌∙◌, subst, inl, inr, All, Contains, IsFalse}
+use Rattle.std.proofs.Common.{get_or, ℕ, count_by, ◌≤◌, ◌≡◌, ◌≢◌, List, [], ◌∷◌, ◌++◌, map, true, false, not, Option, Some, None, refl, sym, ap, ◌∙◌, subst, inl, inr, All, Contains}
 use Rattle.std.specs.BTreeMap.{BTreeMap, get, is_at, IsOrdered}
 use Rattle.std.specs.Map.{keys_of, remove_entry}
 use Rattle.std.specs.Ordering.{is_gt}

@@ -1,6 +1,5 @@
-use Rattle.std.proofs.Common.{rules, vec_items, ◌≡◌, List, [], ◌∷◌, ◌++◌, refl, sym, ◌∙◌, subst}
-use Rattle.am_types.specs.Members.{Member}
-use Rattle.am_delivery.specs.Tracking.{Tracker, Tracks}
+use Rattle.std.proofs.Common.{rules, vec_items, [], ◌∷◌, ◌++◌, refl, sym, ◌∙◌, subst}
+use Rattle.am_delivery.specs.Tracking.{Tracks}
 use Rattle.am_delivery.proofs.Tracking.{empty_is_settled}
 use Rattle.am_delivery.specs.Views.{tracker}
 use Rattle.am_delivery.specs.Waiting.{waiting_of}
