@@ -3,7 +3,7 @@ use Rattle.std.proofs.Common.{◌≡◌, ℕ, List, [], ◌∷◌, length, Bool,
 use Rattle.am_outside.specs.Files.{Files, Stands}
 use Rattle.am_frame.specs.Frames.{Chunk, IsFile, FirstBad}
 use Rattle.am_cli.specs.Script.{Asked}
-use Rattle.am_cli.specs.Machine.{State, state, Answers, Runs, Lists, listing, bad_frame, left_after}
+use Rattle.am_cli.specs.Machine.{State, state, Answers, Runs, Lists, listing, bad_chunk, left_after}
 use Rattle.am_cli.specs.declared.command.Command.TheVariants.{Frames}
 use Rattle.am_cli.specs.declared.command.LineFault.TheVariants.{Syntax}
 
@@ -24,9 +24,9 @@ one_listing law (Some bytes) (Some others) r s e p q = one (subst (λ b. Lists (
 
     one : Lists (Some bytes) s → Lists (Some bytes) r → r ≡ s
     one (inl q) (inl p) = p.2 ∙ ap listing (law.file bytes p.0 q.0 p.1 q.1) ∙ sym q.2
-    one (inr q) (inl p) = absurd (law.never_both bytes p.0 q.0 p.1 q.1)
-    one (inl q) (inr p) = absurd (law.never_both bytes q.0 p.0 q.1 p.1)
-    one (inr q) (inr p) = p.2 ∙ ap bad_frame (law.bad bytes p.0 q.0 p.1 q.1) ∙ sym q.2
+    one (inr q) (inl p) = absurd (law.never_both bytes p.0 q.0 q.1 p.1 q.2)
+    one (inl q) (inr p) = absurd (law.never_both bytes q.0 p.0 p.1 q.1 p.2)
+    one (inr q) (inr p) = let same = law.bad bytes p.0 q.0 p.1 q.1 p.2 q.2 in p.3 ∙ (λ i. bad_chunk (same.1 i) (same.0 i)) ∙ sym q.3
 
 -- a state whose files are told
 abbrev Told : State → Type 0

@@ -3,7 +3,10 @@
 use Rattle.std.specs.Prelude.{◌≡◌, ℕ, ◌∷◌, List, [], ◌++◌, length, codes, decimal, Bool, true, false, ◌&&◌, bytes_eq, take, Option, None, Some, Ok, Err, eqb, flat_map, ◌⊎◌, if◌then◌else◌}
 use Rattle.sha2.specs.Sha256.{sha256}
 use Rattle.hex.specs.Hex.{encode_lower}
-use Rattle.am_frame.specs.Frames.{Chunk, covered, IsFile, FirstBad}
+use Rattle.am_frame.specs.Frames.{Chunk, covered, IsFile}
+use Rattle.am_frame.specs.Faults.{FirstBad}
+use Rattle.am_frame.specs.declared.FrameFault.{FrameFault}
+use Rattle.am_frame.specs.declared.FrameFault.TheVariants.{BadMagic, Truncated, BadLength, BadChecksum, ChunkType, CompressedChunk}
 use Rattle.am_outside.specs.Files.{Files, Stands}
 use Rattle.am_cli.specs.declared.command.Command.TheVariants.{Frames}
 use Rattle.am_cli.specs.declared.command.LineFault.TheVariants.{Syntax}
@@ -41,13 +44,23 @@ chunk_line chunk = kind_word chunk.kind ++ codes " " ++ decimal (length chunk.co
 abbrev pub listing : List Chunk → List ℕ
 listing chunks = codes "ok " ++ decimal (length chunks) ++ newline ∷ [] ++ flat_map chunk_line chunks
 
-abbrev pub bad_frame : ℕ → List ℕ
-bad_frame k = refused (codes "bad-frame chunk " ++ decimal k)
+-- the word for what is wrong with a chunk
+abbrev pub fault_word : FrameFault → List ℕ
+fault_word BadMagic = codes "bad-magic"
+fault_word Truncated = codes "truncated"
+fault_word BadLength = codes "bad-length"
+fault_word BadChecksum = codes "bad-checksum"
+fault_word (ChunkType type) = codes "chunk-type " ++ decimal type
+fault_word CompressedChunk = codes "compressed-chunk"
 
--- the reply to frames: of a file its chunks, or the number of the first that is bad
+-- the reply where chunk number k of a file is bad
+abbrev pub bad_chunk : FrameFault → ℕ → List ℕ
+bad_chunk fault k = refused (fault_word fault ++ codes " chunk " ++ decimal k)
+
+-- the reply to frames: of a file its chunks, or the first that is bad and why
 abbrev pub Lists : Option (List ℕ) → List ℕ → Type 0
 Lists None reply = reply ≡ absent
-Lists (Some bytes) reply = ((chunks : List Chunk) × IsFile bytes chunks × (reply ≡ listing chunks)) ⊎ ((k : ℕ) × FirstBad bytes k × (reply ≡ bad_frame k))
+Lists (Some bytes) reply = ((chunks : List Chunk) × IsFile bytes chunks × (reply ≡ listing chunks)) ⊎ ((k : ℕ) × (fault : FrameFault) × FirstBad bytes k fault × (reply ≡ bad_chunk fault k))
 
 -- from old, the machine may give this reply to what is asked, and go on to new
 abbrev pub Answers : State → Asked → List ℕ → State → Type 0

@@ -53,12 +53,12 @@ fn replies_to_each_line(rt: HostRuntime) -> Result<(), Fail> {
         ("frames nosuch\n", "refused absent\n", Status::SomeRefused),
         (
             "frames cut\n",
-            "refused bad-frame chunk 1\n",
+            "refused truncated chunk 1\n",
             Status::SomeRefused,
         ),
         (
             "frames twice\n",
-            "refused bad-frame chunk 2\n",
+            "refused truncated chunk 2\n",
             Status::SomeRefused,
         ),
         ("x\n", "refused syntax\n", Status::SomeRefused),

@@ -3,11 +3,12 @@ use Rattle.am_frame.specs.Frames.{chunk_of}
 use Rattle.am_cli.proofs.Reading.{all-more, bytes-more, lines-more, count-more, bad-reply}
 use Rattle.am_cli.proofs.listing.list_frames.Goals as goal
 
-pub returns-in_default : goal.returns-in_default
-returns-in_default c =
+pub returns-in-Err : goal.returns-in-Err
+returns-in-Err c =
     let read = c.chunks.invariant.read in
     let some : 0 < length c.chunks.rest.now = search rules in
-    bad-reply c.bad.result c.args.bytes.now c.chunks.rest.now read.0 c.chunks.count read.1 read.2 read.4 some c.in_default.ensures.only c.bad.ensures
+    let fault = c.in-Err.fault in
+    bad-reply c.bad_chunk.result c.args.bytes.now c.chunks.rest.now read.0 c.chunks.count fault read.1 read.2 read.4 some ((c.next_frame.ensures.fault fault).0 (search rules)) c.bad_chunk.ensures
 
 pub chunks-preserved : goal.chunks-preserved
 chunks-preserved c =
