@@ -58,6 +58,10 @@ OrderIsFree = (Ls : List (List Member)) (D C W : List Member) → StandFor C W L
 abbrev pub StaysStored : Type 0
 StaysStored = (C W L : List Member) → AreStored C W → All MayCome L → AreStored (deliver C W L).closed (deliver C W L).waiting
 
+-- each member that a delivery leaves in the two sets was in one of them, or came
+abbrev pub KeepsWhatCame : Type 0
+KeepsWhatCame = (C W L : List Member) (m : Member) → Contains ((deliver C W L).closed ++ (deliver C W L).waiting) m → Contains ((C ++ W) ++ L) m
+
 -- how the two sets are listed doesn't matter to a delivery
 abbrev pub ListingIsFree : Type 0
 ListingIsFree = (C D V W L : List Member) → AreStored C V → IsPermutation C D → IsPermutation V W → All MayCome L

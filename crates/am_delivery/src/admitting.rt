@@ -42,6 +42,7 @@ fn admit_next<S: Closed>(
     ensures one { let old : Sets = record { closed = S.members closed.old; waiting = waiting_of waiting.old; rejected = vec_items rejected.old } in
         let new : Sets = record { closed = S.members closed.new; waiting = waiting_of waiting.new; rejected = vec_items rejected.new } in
         IfOk result (λ taken. MatchBool taken (TakesOne old new) ((new ≡ old) × IsSettled old)) }
+    ensures base { OnOk result (S.base closed.new ≡ S.base closed.old) }
 {
     let _count = waiting.len();
     let Some(hash) = pending.pop() else {
@@ -72,9 +73,10 @@ pub fn settle_all<S: Closed>(
     requires tracks { Tracks (S.members closed.old) (waiting_of waiting.old) (tracker pending.old) }
     requires valid { Valid (S.members closed.old) }
     requires waits { All (Waits (S.members closed.old)) (waiting_of waiting.old) }
-    ensures { let old : Sets = record { closed = S.members closed.old; waiting = waiting_of waiting.old; rejected = vec_items rejected.old } in
+    ensures settles { let old : Sets = record { closed = S.members closed.old; waiting = waiting_of waiting.old; rejected = vec_items rejected.old } in
         let new : Sets = record { closed = S.members closed.new; waiting = waiting_of waiting.new; rejected = vec_items rejected.new } in
         OnOk result (new ≡ settle old) }
+    ensures base { OnOk result (S.base closed.new ≡ S.base closed.old) }
 {
     while admit_next(alloc, closed, waiting, pending, rejected)? {}
     Ok(())

@@ -13,6 +13,9 @@ use std::alloc::{AllocError, Global};
 pub trait Closed {
     ghost members: { Self → List Member };
 
+    // What stays as it is while changes join.
+    ghost base: { Self → List Member };
+
     /// The change with this hash, where it is held.
     fn held(&self, hash: &Hash) -> Option<&Change>
         ensures { option_copied result ≡ option_map (λ m. m.change) (member (members self.now) hash.now) };
@@ -28,5 +31,6 @@ pub trait Closed {
     fn join(&mut self, alloc: Global, hash: Hash, change: Change) -> Result<(), AllocError>
         requires valid { Valid (members self.old) }
         requires joins { Joins (members self.old) (record { hash = hash; change = change }) }
-        ensures { OnOk result (members self.new ≡ members self.old ++ record { hash = hash; change = change } ∷ []) };
+        ensures joined { OnOk result (members self.new ≡ members self.old ++ record { hash = hash; change = change } ∷ []) }
+        ensures base { OnOk result (base self.new ≡ base self.old) };
 }

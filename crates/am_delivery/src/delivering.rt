@@ -71,6 +71,7 @@ pub fn deliver<S: Closed>(
     ensures waiting { OnOk result (IsPermutation (delivered (S.members closed.old) (waiting_of waiting.old) (members_of (vec_items changes))).waiting (waiting_of waiting.new)) }
     ensures rejected { IfOk result (λ reports. reports ≡ (delivered (S.members closed.old) (waiting_of waiting.old) (members_of (vec_items changes))).rejected) }
     ensures stored { OnOk result (AreStored (S.members closed.new) (waiting_of waiting.new)) }
+    ensures base { OnOk result (S.base closed.new ≡ S.base closed.old) }
 {
     let mut rejected = Vec::new(alloc);
     receive_all(closed, waiting, &mut rejected, changes)?;

@@ -30,12 +30,12 @@ release-requires g c = enough (g.S.Closed.members c.args.closed.now) c.args.wait
 pub returns-in_ok-release-in-None-clause-tracks : goal.returns-in_ok-release-in-None-clause-tracks
 returns-in_ok-release-in-None-clause-tracks g c =
     let t = tracks_released (g.S.Closed.members c.args.closed.now) c.args.waiting.now c.len-count.ensures.ordered (tracker c.args.pending.now) (tracker c.pop.new.self) c.requires.tracks c.requires.waits c.in-Some.hash c.in-Some.ensures.first c.in-Some.ensures.least c.in-Some.ensures.counts c.in-Some.ensures.names c.in-Some-remove.change (turn (g.S.Closed.members c.args.closed.now) c.args.waiting.now c.len-count.ensures.ordered (tracker c.args.pending.now) (tracker c.pop.new.self) c.requires.tracks c.requires.waits c.in-Some.hash c.in-Some.ensures.first c.in-Some.ensures.least c.in-Some.ensures.counts c.in-Some.ensures.names c.remove.result c.in-Some-remove.change c.remove.ensures.value c.in-Some-remove.is) (tracker c.release.new.self) c.in_ok-release-in-None.ensures in
-    subst (λ C. Tracks C (waiting_of c.remove.new.self) (tracker c.release.new.self)) (sym c.in_ok-join-in-None.ensures)
+    subst (λ C. Tracks C (waiting_of c.remove.new.self) (tracker c.release.new.self)) (sym c.in_ok-join-in-None.ensures.joined)
     (subst (λ W. Tracks (g.S.Closed.members c.args.closed.now ++ record { hash = c.in-Some.hash; change = c.in-Some-remove.change } ∷ []) W (tracker c.release.new.self)) (sym (removed c.args.waiting.now c.len-count.ensures.ordered c.in-Some.hash c.remove.new.self c.remove.ensures.entries)) t)
 
 pub returns-in_ok-release-in-None-clause-one : goal.returns-in_ok-release-in-None-clause-one
 returns-in_ok-release-in-None-clause-one g c =
-    takes_fitting (g.S.Closed.members c.args.closed.now) c.args.waiting.now c.len-count.ensures.ordered (tracker c.args.pending.now) (tracker c.pop.new.self) c.requires.tracks c.requires.waits c.in-Some.hash c.in-Some.ensures.first c.in-Some.ensures.least c.in-Some.ensures.counts c.in-Some.ensures.names c.in-Some-remove.change (turn (g.S.Closed.members c.args.closed.now) c.args.waiting.now c.len-count.ensures.ordered (tracker c.args.pending.now) (tracker c.pop.new.self) c.requires.tracks c.requires.waits c.in-Some.hash c.in-Some.ensures.first c.in-Some.ensures.least c.in-Some.ensures.counts c.in-Some.ensures.names c.remove.result c.in-Some-remove.change c.remove.ensures.value c.in-Some-remove.is) _ (g.S.Closed.members c.join.new.self) (waiting_of c.remove.new.self) (sym c.in-None.ensures ∙ c.in_ok-verdict.ensures) c.in_ok-join-in-None.ensures (removed c.args.waiting.now c.len-count.ensures.ordered c.in-Some.hash c.remove.new.self c.remove.ensures.entries)
+    takes_fitting (g.S.Closed.members c.args.closed.now) c.args.waiting.now c.len-count.ensures.ordered (tracker c.args.pending.now) (tracker c.pop.new.self) c.requires.tracks c.requires.waits c.in-Some.hash c.in-Some.ensures.first c.in-Some.ensures.least c.in-Some.ensures.counts c.in-Some.ensures.names c.in-Some-remove.change (turn (g.S.Closed.members c.args.closed.now) c.args.waiting.now c.len-count.ensures.ordered (tracker c.args.pending.now) (tracker c.pop.new.self) c.requires.tracks c.requires.waits c.in-Some.hash c.in-Some.ensures.first c.in-Some.ensures.least c.in-Some.ensures.counts c.in-Some.ensures.names c.remove.result c.in-Some-remove.change c.remove.ensures.value c.in-Some-remove.is) _ (g.S.Closed.members c.join.new.self) (waiting_of c.remove.new.self) (sym c.in-None.ensures ∙ c.in_ok-verdict.ensures) c.in_ok-join-in-None.ensures.joined (removed c.args.waiting.now c.len-count.ensures.ordered c.in-Some.hash c.remove.new.self c.remove.ensures.entries)
 
 pub returns-in_ok-push-in-Some-why_not-clause-tracks : goal.returns-in_ok-push-in-Some-why_not-clause-tracks
 returns-in_ok-push-in-Some-why_not-clause-tracks g c =

@@ -14,6 +14,7 @@ invariant-loop g l =
       tracks : Tracks (g.S.Closed.members l.closed) (waiting_of l.waiting) (tracker l.pending);
       kept : Kept now;
       settles : settle now ≡ settle first;
+      base : g.S.Closed.base l.closed ≡ g.S.Closed.base l.fn.closed;
     }
 
 abbrev pub decreases-loop : goal.decreases-loop

@@ -24,8 +24,9 @@ returns g c =
     let t : Sets = record { closed = C; waiting = waiting_of c.receive_all.new.waiting; rejected = vec_items c.receive_all.new.rejected } in
     let new : Sets = record { closed = g.S.Closed.members c.settle_all.new.closed; waiting = waiting_of c.settle_all.new.waiting; rejected = vec_items c.settle_all.new.rejected } in
     record {
-      closed = ends_closed C W L c.requires.stored c.requires.may_come t refl (from_nothing C (waiting_of c.args.waiting.now) (members_of (vec_items c.args.changes)) t (vec_items c.new-rejected.result) (search rules) c.in_ok-receive_all.ensures) new c.in_ok-settle_all.ensures;
-      waiting = ends_waiting C W L c.requires.stored c.requires.may_come t refl (from_nothing C (waiting_of c.args.waiting.now) (members_of (vec_items c.args.changes)) t (vec_items c.new-rejected.result) (search rules) c.in_ok-receive_all.ensures) new c.in_ok-settle_all.ensures;
-      rejected = c.from.ensures ∙ ends_rejected C W L c.requires.stored c.requires.may_come t refl (from_nothing C (waiting_of c.args.waiting.now) (members_of (vec_items c.args.changes)) t (vec_items c.new-rejected.result) (search rules) c.in_ok-receive_all.ensures) new c.in_ok-settle_all.ensures;
-      stored = ends_stored C W L c.requires.stored c.requires.may_come t refl (from_nothing C (waiting_of c.args.waiting.now) (members_of (vec_items c.args.changes)) t (vec_items c.new-rejected.result) (search rules) c.in_ok-receive_all.ensures) new c.in_ok-settle_all.ensures;
+      closed = ends_closed C W L c.requires.stored c.requires.may_come t refl (from_nothing C (waiting_of c.args.waiting.now) (members_of (vec_items c.args.changes)) t (vec_items c.new-rejected.result) (search rules) c.in_ok-receive_all.ensures) new c.in_ok-settle_all.ensures.settles;
+      waiting = ends_waiting C W L c.requires.stored c.requires.may_come t refl (from_nothing C (waiting_of c.args.waiting.now) (members_of (vec_items c.args.changes)) t (vec_items c.new-rejected.result) (search rules) c.in_ok-receive_all.ensures) new c.in_ok-settle_all.ensures.settles;
+      rejected = c.from.ensures ∙ ends_rejected C W L c.requires.stored c.requires.may_come t refl (from_nothing C (waiting_of c.args.waiting.now) (members_of (vec_items c.args.changes)) t (vec_items c.new-rejected.result) (search rules) c.in_ok-receive_all.ensures) new c.in_ok-settle_all.ensures.settles;
+      base = c.in_ok-settle_all.ensures.base;
+      stored = ends_stored C W L c.requires.stored c.requires.may_come t refl (from_nothing C (waiting_of c.args.waiting.now) (members_of (vec_items c.args.changes)) t (vec_items c.new-rejected.result) (search rules) c.in_ok-receive_all.ensures) new c.in_ok-settle_all.ensures.settles;
     }
