@@ -9,6 +9,7 @@ mod find;
 mod graph;
 mod node;
 mod parts;
+mod place;
 mod reach;
 #[cfg(test)]
 mod tests;
