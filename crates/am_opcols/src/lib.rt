@@ -14,6 +14,6 @@ mod writer;
 pub use am_fields::IdCursor as PredCursor;
 pub use cursor::OpCursor;
 pub use fault::BadOps;
-pub use laws::one_list;
+pub use laws::{canonical_columns_spell, one_list};
 pub use op::OpRef;
 pub use write::{OpsText, write_ops};
