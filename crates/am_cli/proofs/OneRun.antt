@@ -1,16 +1,17 @@
 -- Where files are told, the machine gives one reply to a command, and one list of replies to a script, however the two
 -- sets are listed.
 use Rattle.std.proofs.Common.{◌≡◌, ℕ, ◌-◌, ◌<◌, ◌^◌, List, [], ◌∷◌, length, Bool, true, Option, Some, None, Ok, Err, refl, sym, ap, subst, ◌∙◌, inl, inr, ◌⊎◌, arith}
-use Rattle.std.specs.Prelude.{All, IsPermutation}
-use Rattle.std.proofs.lemmas.List.Sorted.{IsPermutation-refl, IsPermutation-sym, IsPermutation-trans, IsPermutation-map, length_permutation}
+use Rattle.std.specs.Prelude.{All, IsPermutation, find, not}
+use Rattle.std.proofs.lemmas.List.Sorted.{IsPermutation-refl, IsPermutation-sym, IsPermutation-trans, IsPermutation-map, length_permutation, list_any-IsPermutation}
 use Rattle.am_outside.specs.Files.{Files, Stands}
 use Rattle.am_frame.specs.Frames.{Chunk, IsFile}
 use Rattle.am_frame.specs.Faults.{FirstBad}
 use Rattle.am_frame.specs.declared.FrameFault.{FrameFault}
 use Rattle.am_types.specs.declared.Change.{Change}
 use Rattle.am_types.specs.declared.Hash.{Hash}
-use Rattle.am_types.specs.Order.{hash_cmp, sorted_by}
-use Rattle.am_types.specs.Members.{Member, hashes, heads}
+use Rattle.am_types.specs.Order.{hash_cmp, sorted_by, same as same_by}
+use Rattle.am_types.specs.Members.{Member, hashes, heads, holds}
+use Rattle.am_types.specs.ValidSets.{Valid}
 use Rattle.am_types.specs.Deliver.{Sets, deliver, AreStored, MayCome}
 use Rattle.am_types.specs.Laws.{ListingIsFree}
 use Rattle.am_delivery.specs.Laws as delivery
@@ -21,8 +22,11 @@ use Rattle.am_cli.specs.Line.{Asked}
 use Rattle.am_cli.specs.Replies.{hash_list}
 use Rattle.am_cli.specs.Listing.{Lists, listing, bad_chunk}
 use Rattle.am_cli.specs.Apply.{Applies, Delivers, outcome, report_text, bad_file}
+use Rattle.am_cli.specs.Reading.{reading_by, reading_at, reading}
+use Rattle.am_json.specs.declared.Form.{Form}
+use Rattle.am_json.specs.declared.Form.TheVariants as form
 use Rattle.am_cli.specs.Machine.{State, state, first_state, SameSets, SameState, Answers, Runs, left_after}
-use Rattle.am_cli.specs.declared.command.Command.TheVariants.{Frames, Apply, Heads, Waiting}
+use Rattle.am_cli.specs.declared.command.Command.TheVariants.{Frames, Apply, Heads, Waiting, Show, Conflicts}
 use Rattle.am_cli.specs.declared.command.LineFault.TheVariants.{Syntax, BadHash}
 
 -- what the crates below promise
@@ -157,6 +161,16 @@ one_applied law c s t stored p k (Some bytes) (Some others) r q end last e f g =
           right = subst (SameSets c) (sym y.4) k;
         }
 
+-- what is read doesn't depend on how the closed set is listed
+one_reading_at : Laws → (form : Form) (hs : List Hash) (C D : List Member) → Valid C → IsPermutation C D → reading_at form hs D ≡ reading_at form hs C
+one_reading_at law form hs C D valid same =
+    let held : (h : Hash) → holds D h ≡ holds C h = λ h. sym (list_any-IsPermutation (same_by hash_cmp h) (hashes C) (hashes D) (IsPermutation-map (λ m. m.hash) C D same)) in
+    let seen = ((law.reads C D valid same).at hs).visible in λ i. reading_by (find (λ h. not (held h i)) hs) form (seen i)
+
+one_read : Laws → (form : Form) (named : List Hash) (C D : List Member) → Valid C → IsPermutation C D → reading form named D ≡ reading form named C
+one_read law form [] C D valid same = ap (λ hs. reading_at form hs D) (law.reads C D valid same).heads ∙ one_reading_at law form (heads C) C D valid same
+one_read law form (h ∷ hs) C D valid same = one_reading_at law form (h ∷ hs) C D valid same
+
 one_found : (c s t : State) (name : List ℕ) (file other : Option (List ℕ)) → Sound c → SameState c s → SameState c t → Stands s.files name file → Stands t.files name other → file ≡ other
 one_found c s t name file other sound p k f g =
     let a = subst (λ x. Stands x name file) (sym p.files ∙ sound.files) f in
@@ -182,6 +196,14 @@ one_answer law c s t (Ok Waiting) r q end other sound p k f g =
     let here = law.sorts (hashes c.kept.waiting) (hashes s.kept.waiting) (IsPermutation-map (λ m. m.hash) c.kept.waiting s.kept.waiting p.sets.waiting) in
     let there = law.sorts (hashes c.kept.waiting) (hashes t.kept.waiting) (IsPermutation-map (λ m. m.hash) c.kept.waiting t.kept.waiting k.sets.waiting) in
     stay c s t r q end other sound p k (f.0 ∙ ap hash_list (here ∙ sym there) ∙ sym g.0) f.1 g.1
+one_answer law c s t (Ok (Show named)) r q end other sound p k f g =
+    let here = one_read law form.Winners named c.kept.closed s.kept.closed sound.stored.valid p.sets.closed in
+    let there = one_read law form.Winners named c.kept.closed t.kept.closed sound.stored.valid k.sets.closed in
+    stay c s t r q end other sound p k (f.0 ∙ here ∙ sym there ∙ sym g.0) f.1 g.1
+one_answer law c s t (Ok (Conflicts named)) r q end other sound p k f g =
+    let here = one_read law form.All named c.kept.closed s.kept.closed sound.stored.valid p.sets.closed in
+    let there = one_read law form.All named c.kept.closed t.kept.closed sound.stored.valid k.sets.closed in
+    stay c s t r q end other sound p k (f.0 ∙ here ∙ sym there ∙ sym g.0) f.1 g.1
 one_answer law c s t (Err Syntax) r q end other sound p k f g = stay c s t r q end other sound p k (f.0 ∙ sym g.0) f.1 g.1
 one_answer law c s t (Err BadHash) r q end other sound p k f g = stay c s t r q end other sound p k (f.0 ∙ sym g.0) f.1 g.1
 

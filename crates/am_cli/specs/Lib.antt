@@ -4,6 +4,7 @@ pub mod Words
 pub mod Replies
 pub mod Listing
 pub mod Apply
+pub mod Reading
 pub mod Machine
 pub mod Ends
 pub mod Carried

@@ -10,7 +10,7 @@ use Rattle.hex.specs.Hex.{decode_sized}
 use Rattle.hex.specs.declared.FromHexError.{FromHexError}
 use Rattle.am_types.specs.declared.Hash.{Hash}
 use Rattle.am_cli.specs.declared.command.Command.{Command}
-use Rattle.am_cli.specs.declared.command.Command.TheVariants.{Frames, Apply, Heads, Waiting}
+use Rattle.am_cli.specs.declared.command.Command.TheVariants.{Frames, Apply, Heads, Waiting, Show, Conflicts}
 use Rattle.am_cli.specs.declared.command.LineFault.{LineFault}
 use Rattle.am_cli.specs.declared.command.LineFault.TheVariants.{Syntax, BadHash}
 
@@ -75,6 +75,8 @@ by_words (first ∷ more) =
     else if bytes_eq first (codes "apply") then made Apply (one_name more)
     else if bytes_eq first (codes "heads") then alone Heads more
     else if bytes_eq first (codes "waiting") then alone Waiting more
+    else if bytes_eq first (codes "show") then made Show (all_hashes more)
+    else if bytes_eq first (codes "conflicts") then made Conflicts (all_hashes more)
     else Err Syntax
 
 -- a line that isn't empty

@@ -8,12 +8,14 @@ use Rattle.am_types.specs.Order.{hash_cmp, sorted_by}
 use Rattle.am_types.specs.Members.{heads, hashes}
 use Rattle.am_store.specs.Kept.{Kept}
 use Rattle.am_outside.specs.Files.{Files, Stands}
-use Rattle.am_cli.specs.declared.command.Command.TheVariants.{Frames, Apply, Heads, Waiting}
+use Rattle.am_json.specs.declared.Form.TheVariants as form
+use Rattle.am_cli.specs.declared.command.Command.TheVariants.{Frames, Apply, Heads, Waiting, Show, Conflicts}
 use Rattle.am_cli.specs.declared.command.LineFault.TheVariants.{Syntax, BadHash}
 use Rattle.am_cli.specs.Line.{Asked}
 use Rattle.am_cli.specs.Replies.{refused, is_refused, hash_list}
 use Rattle.am_cli.specs.Listing.{Lists}
 use Rattle.am_cli.specs.Apply.{Applies}
+use Rattle.am_cli.specs.Reading.{reading}
 
 -- what stands from command to command: the closed and the waiting set, and the files, where the folder tells them
 pub record State : Type 0 where
@@ -41,6 +43,8 @@ Answers old (Ok (Frames name)) reply new = (found : Option (List ℕ)) × Stands
 Answers old (Ok (Apply name)) reply new = (found : Option (List ℕ)) × Stands old.files name found × Applies found old.kept reply new.kept × (new.files ≡ old.files)
 Answers old (Ok Heads) reply new = (reply ≡ hash_list (heads old.kept.closed)) × (new ≡ old)
 Answers old (Ok Waiting) reply new = (reply ≡ hash_list (sorted_by hash_cmp (hashes old.kept.waiting))) × (new ≡ old)
+Answers old (Ok (Show named)) reply new = (reply ≡ reading form.Winners named old.kept.closed) × (new ≡ old)
+Answers old (Ok (Conflicts named)) reply new = (reply ≡ reading form.All named old.kept.closed) × (new ≡ old)
 Answers old (Err Syntax) reply new = (reply ≡ refused (codes "syntax")) × (new ≡ old)
 Answers old (Err BadHash) reply new = (reply ≡ refused (codes "hash")) × (new ≡ old)
 
@@ -60,6 +64,8 @@ names_file (Ok (Frames name)) = true
 names_file (Ok (Apply name)) = true
 names_file (Ok Heads) = false
 names_file (Ok Waiting) = false
+names_file (Ok (Show named)) = false
+names_file (Ok (Conflicts named)) = false
 names_file (Err Syntax) = false
 names_file (Err BadHash) = false
 
@@ -69,5 +75,7 @@ kept_file (Ok (Frames name)) = None
 kept_file (Ok (Apply name)) = None
 kept_file (Ok Heads) = None
 kept_file (Ok Waiting) = None
+kept_file (Ok (Show named)) = None
+kept_file (Ok (Conflicts named)) = None
 kept_file (Err Syntax) = None
 kept_file (Err BadHash) = None

@@ -13,7 +13,9 @@ use crate::command::{Command, LineFault};
 use crate::halt::Stop;
 use crate::heads::{list_heads, list_waiting};
 use crate::listing::list_frames;
+use crate::reading::read;
 use crate::replies::refusal;
+use am_json::Form;
 use am_outside::{FetchFault, Folder};
 use am_store::Store;
 use am_types::Bytes;
@@ -74,6 +76,7 @@ fn applied<F: Folder>(
 }
 
 /// The reply to what a line asks for, and what it does to the store.
+#[tactic(auto, using(crate::proofs::Present::reading_is_there))]
 pub fn answer<F: Folder>(
     alloc: Global,
     asked: &Result<Command, LineFault>,
@@ -97,5 +100,7 @@ pub fn answer<F: Folder>(
         Ok(Command::Apply(name)) => applied(alloc, name.as_str(), store, files),
         Ok(Command::Heads) => Ok(list_heads(alloc, store)?),
         Ok(Command::Waiting) => Ok(list_waiting(alloc, store)?),
+        Ok(Command::Show(named)) => Ok(read(alloc, Form::Winners, named.as_slice(), store)?),
+        Ok(Command::Conflicts(named)) => Ok(read(alloc, Form::All, named.as_slice(), store)?),
     }
 }

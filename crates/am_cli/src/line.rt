@@ -136,6 +136,12 @@ fn by_words(alloc: Global, first: &[u8], more: &[&[u8]]) -> Result<Result<Comman
     if is_same(first, "waiting") {
         return Ok(alone(Command::Waiting, more));
     }
+    if is_same(first, "show") {
+        return Ok(all_hashes(alloc, more)?.map(Command::Show));
+    }
+    if is_same(first, "conflicts") {
+        return Ok(all_hashes(alloc, more)?.map(Command::Conflicts));
+    }
     Ok(Err(LineFault::Syntax))
 }
 

@@ -13,6 +13,7 @@ mod line;
 mod listing;
 mod output;
 mod plan;
+mod reading;
 mod replies;
 mod run;
 mod script;

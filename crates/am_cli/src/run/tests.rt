@@ -16,6 +16,9 @@ const A1: [u8; 42] = [
 const A1_LINE: &str =
     "change 32 d99aa04d2627b06462ea181e063a2e07e16255c088d1fe97ecf9c964cfa6ce32\n";
 
+/// What its delivery, two refusals, the hashes and the document are told as.
+const A1_APPLIED: &str = "ok added 1 waiting 0 rejected 0\nrefused truncated chunk 2\nrefused hash\nok 1\nd99aa04d2627b06462ea181e063a2e07e16255c088d1fe97ecf9c964cfa6ce32\nok 0\n{\"a\":1}\n{\"a\":[[\"1@aa\",1]]}\n";
+
 fn words(alloc: Global, all: &[&str]) -> Result<Vec<Text>, AllocError> {
     let mut words = Vec::new(alloc);
     for word in all {
@@ -44,11 +47,16 @@ fn replies_to_each_line(rt: HostRuntime) -> Result<(), Fail> {
     let alloc = rt.alloc();
     let listed = format!(in alloc; "ok 1\n{A1_LINE}")?;
     let both = format!(in alloc; "ok 1\n{A1_LINE}ok 1\n{A1_LINE}")?;
-    let table: [(&str, &str, Status); 11] = [
+    let table: [(&str, &str, Status); 12] = [
         ("frames A1\n", listed.as_str(), Status::Done),
         ("frames A1", listed.as_str(), Status::Done),
         ("frames A1\n\nframes A1", both.as_str(), Status::Done),
         ("", "", Status::Done),
+        (
+            "apply A1\napply twice\nshow x\nheads\nwaiting\nshow\nconflicts\n",
+            A1_APPLIED,
+            Status::SomeRefused,
+        ),
         ("frames empty\n", "ok 0\n", Status::Done),
         ("frames nosuch\n", "refused absent\n", Status::SomeRefused),
         (
