@@ -69,9 +69,9 @@ fn report_text(alloc: Global, report: &Report) -> Result<Bytes, AllocError>
     let added = report.added;
     let waiting = report.waiting;
     let count = report.rejected.len();
-    Ok(Bytes::from(
-        format!(in alloc; "ok added {added} waiting {waiting} rejected {count}\n{lines}")?.into_bytes(),
-    ))
+    Ok(Bytes::from(format!(in alloc;
+        "ok added {added} waiting {waiting} rejected {count}\n{lines}"
+    )?.into_bytes()))
 }
 
 // What is wrong with a chunk.

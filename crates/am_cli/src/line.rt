@@ -120,7 +120,11 @@ fn is_same(word: &[u8], other: &str) -> bool
 }
 
 // What the words of a line ask for, by the first of them.
-fn by_words(alloc: Global, first: &[u8], more: &[&[u8]]) -> Result<Result<Command, LineFault>, AllocError>
+fn by_words(
+    alloc: Global,
+    first: &[u8],
+    more: &[&[u8]],
+) -> Result<Result<Command, LineFault>, AllocError>
     requires { list_all is_word (map (λ word. word.now) more.now) ≡ true }
     ensures { IfOk result (λ asked. asked ≡ by_words (first.now ∷ map (λ word. word.now) more.now)) }
 {

@@ -12,8 +12,8 @@ use crate::input::{LONGEST, Unread, read_all};
 use crate::plan::Plan;
 use crate::script::read_script;
 use crate::words::plan;
-use am_store::Store;
 use am_outside::{Folder, Sink, Source};
+use am_store::Store;
 use am_types::Text;
 use std::alloc::Global;
 

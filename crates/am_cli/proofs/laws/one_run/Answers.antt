@@ -1,3 +1,4 @@
+use Rattle.std.proofs.Common.{true}
 use Rattle.am_cli.proofs.OneRun.{Laws, whole, front}
 use Rattle.am_cli.proofs.laws.one_run.Goals as goal
 
@@ -6,8 +7,10 @@ returns-clause-whole c = whole (record {
   file = c.one_reading.ensures.file;
   bad = c.one_reading.ensures.bad;
   never_both = c.one_reading.ensures.never_both;
-  loads = c.one_reading-2.ensures;
-  may_come = c.files_may_come.ensures;
+  one_file = c.one_reading-2.ensures.changes true;
+  one_fault = λ bytes short j k f g x y. (c.one_reading-2.ensures.number true bytes short j k f g x y, c.one_reading-2.ensures.fault true bytes short j k f g x y);
+  file_or_fault = c.one_reading-2.ensures.either true;
+  may_come = c.files_may_come.ensures true;
   deliveries = c.listing_is_free.ensures;
   stored = c.stays_stored.ensures;
   reads = c.listing_is_free-2.ensures;
@@ -19,8 +22,10 @@ returns-clause-front c = front (record {
   file = c.one_reading.ensures.file;
   bad = c.one_reading.ensures.bad;
   never_both = c.one_reading.ensures.never_both;
-  loads = c.one_reading-2.ensures;
-  may_come = c.files_may_come.ensures;
+  one_file = c.one_reading-2.ensures.changes true;
+  one_fault = λ bytes short j k f g x y. (c.one_reading-2.ensures.number true bytes short j k f g x y, c.one_reading-2.ensures.fault true bytes short j k f g x y);
+  file_or_fault = c.one_reading-2.ensures.either true;
+  may_come = c.files_may_come.ensures true;
   deliveries = c.listing_is_free.ensures;
   stored = c.stays_stored.ensures;
   reads = c.listing_is_free-2.ensures;
