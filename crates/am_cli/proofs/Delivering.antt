@@ -21,10 +21,10 @@ delivers old cs report reply new left told =
       reply_is = told ∙ (λ i. report_text (added i) (waiting i) (left.rejected i));
     }
 
-pub applied_whole : {E : Type 0} (r : Result (List ℕ) E) (bytes : List ℕ) (old new : Kept) (report : Report) → length bytes < 2 ^ 64 → ((cs : List Change) × IsFile true bytes cs × Delivered old cs report new)
+pub applied_whole : {E : Type 0} (r : Result (List ℕ) E) (bytes : List ℕ) (old new : Kept) (report : Report) → ((cs : List Change) × IsFile true bytes cs × Delivered old cs report new)
     → IfOk r (λ reply. reply ≡ report_text report.added report.waiting report.rejected) → IfOk r (λ reply. Applies (Some bytes) old reply new)
-applied_whole r bytes old new report fits read = IfOk-weaker r _ _ (λ reply told. (fits, inl (read.0, read.1, delivers old read.0 report reply new read.2 told)))
+applied_whole r bytes old new report read = IfOk-weaker r _ _ (λ reply told. inl (read.0, read.1, delivers old read.0 report reply new read.2 told))
 
-pub applied_bad : {E : Type 0} (r : Result (List ℕ) E) (bytes : List ℕ) (old new : Kept) (k : ℕ) (fault : LoadFault) → length bytes < 2 ^ 64 → FirstBad true bytes k fault → new ≡ old
+pub applied_bad : {E : Type 0} (r : Result (List ℕ) E) (bytes : List ℕ) (old new : Kept) (k : ℕ) (fault : LoadFault) → FirstBad true bytes k fault → new ≡ old
     → IfOk r (λ reply. reply ≡ bad_file fault k) → IfOk r (λ reply. Applies (Some bytes) old reply new)
-applied_bad r bytes old new k fault fits bad same = IfOk-weaker r _ _ (λ reply told. (fits, inr (k, fault, bad, told, same)))
+applied_bad r bytes old new k fault bad same = IfOk-weaker r _ _ (λ reply told. inr (k, fault, bad, told, same))

@@ -1,4 +1,5 @@
 pub mod Ascending
+pub mod Coming
 pub mod Delivering
 pub mod LineWords
 pub mod Lines

@@ -18,6 +18,7 @@ use Rattle.am_delivery.specs.Laws as delivery
 use Rattle.am_store.specs.Kept.{Kept, with_hashes}
 use Rattle.am_store.specs.Files as store
 use Rattle.am_store.specs.declared.LoadFault.{LoadFault}
+use Rattle.am_cli.proofs.Coming.{changes_may_come}
 use Rattle.am_cli.specs.Line.{Asked}
 use Rattle.am_cli.specs.Replies.{hash_list}
 use Rattle.am_cli.specs.Listing.{Lists, listing, bad_chunk}
@@ -34,10 +35,9 @@ pub record Laws : Type 0 where
   pub file : (bytes : List ℕ) (chunks others : List Chunk) → IsFile bytes chunks → IsFile bytes others → chunks ≡ others
   pub bad : (bytes : List ℕ) (j k : ℕ) (fault other : FrameFault) → FirstBad bytes j fault → FirstBad bytes k other → (j ≡ k) × (fault ≡ other)
   pub never_both : (bytes : List ℕ) (chunks : List Chunk) (k : ℕ) (fault : FrameFault) → IsFile bytes chunks → FirstBad bytes k fault → ⊥
-  pub one_file : (bytes : List ℕ) → length bytes < 2 ^ 64 → (cs ds : List Change) → store.IsFile true bytes cs → store.IsFile true bytes ds → cs ≡ ds
-  pub one_fault : (bytes : List ℕ) → length bytes < 2 ^ 64 → (j k : ℕ) (f g : LoadFault) → store.FirstBad true bytes j f → store.FirstBad true bytes k g → (j ≡ k) × (f ≡ g)
-  pub file_or_fault : (bytes : List ℕ) → length bytes < 2 ^ 64 → (cs : List Change) (k : ℕ) (f : LoadFault) → store.IsFile true bytes cs → store.FirstBad true bytes k f → ⊥
-  pub may_come : (bytes : List ℕ) (cs : List Change) → store.IsFile true bytes cs → All MayCome (with_hashes cs)
+  pub one_file : (bytes : List ℕ) (cs ds : List Change) → store.IsFile true bytes cs → store.IsFile true bytes ds → cs ≡ ds
+  pub one_fault : (bytes : List ℕ) (j k : ℕ) (f g : LoadFault) → store.FirstBad true bytes j f → store.FirstBad true bytes k g → (j ≡ k) × (f ≡ g)
+  pub file_or_fault : (bytes : List ℕ) (cs : List Change) (k : ℕ) (f : LoadFault) → store.IsFile true bytes cs → store.FirstBad true bytes k f → ⊥
   pub deliveries : delivery.ListingIsFree
   pub stored : delivery.StaysStored
   pub reads : ListingIsFree
@@ -129,14 +129,14 @@ one_applied law c s t stored p k None None r q end last e f g = record {
 }
 one_applied law c s t stored p k None (Some bytes) r q end last e f g = absurd (cc)
 one_applied law c s t stored p k (Some bytes) None r q end last e f g = absurd (cc)
-one_applied law c s t stored p k (Some bytes) (Some others) r q end last e f g = one f.1 (subst (λ b. Applies (Some b) t q last) (sym same) g).1
+one_applied law c s t stored p k (Some bytes) (Some others) r q end last e f g = one f (subst (λ b. Applies (Some b) t q last) (sym same) g)
   where
     same : bytes ≡ others
     same = cc
 
     both : (cs : List Change) → store.IsFile true bytes cs → Delivers s cs r end → Delivers t cs q last → AgreeSets r q end last
     both cs is x y =
-        let come = law.may_come bytes cs is in
+        let come = changes_may_come bytes cs is in
         let here = one_report law c s cs r end stored come p x in
         let there = one_report law c t cs q last stored come k y in
         record {
@@ -149,11 +149,11 @@ one_applied law c s t stored p k (Some bytes) (Some others) r q end last e f g =
 
     one : (((cs : List Change) × store.IsFile true bytes cs × Delivers s cs r end) ⊎ ((k : ℕ) × (fault : LoadFault) × store.FirstBad true bytes k fault × (r ≡ bad_file fault k) × (end ≡ s)))
         → (((cs : List Change) × store.IsFile true bytes cs × Delivers t cs q last) ⊎ ((k : ℕ) × (fault : LoadFault) × store.FirstBad true bytes k fault × (q ≡ bad_file fault k) × (last ≡ t))) → AgreeSets r q end last
-    one (inl x) (inl y) = both x.0 x.1 x.2 (subst (λ cs. Delivers t cs q last) (law.one_file bytes f.0 y.0 x.0 y.1 x.1) y.2)
-    one (inl x) (inr y) = absurd (law.file_or_fault bytes f.0 x.0 y.0 y.1 x.1 y.2)
-    one (inr x) (inl y) = absurd (law.file_or_fault bytes f.0 y.0 x.0 x.1 y.1 x.2)
+    one (inl x) (inl y) = both x.0 x.1 x.2 (subst (λ cs. Delivers t cs q last) (law.one_file bytes y.0 x.0 y.1 x.1) y.2)
+    one (inl x) (inr y) = absurd (law.file_or_fault bytes x.0 y.0 y.1 x.1 y.2)
+    one (inr x) (inl y) = absurd (law.file_or_fault bytes y.0 x.0 x.1 y.1 x.2)
     one (inr x) (inr y) =
-        let bad = law.one_fault bytes f.0 x.0 y.0 x.1 y.1 x.2 y.2 in
+        let bad = law.one_fault bytes x.0 y.0 x.1 y.1 x.2 y.2 in
         record {
           reply = x.3 ∙ (λ i. bad_file (bad.1 i) (bad.0 i)) ∙ sym y.3;
           next = c;

@@ -52,8 +52,8 @@ bad_file_there load.CompressedColumn k = refl
 bad_file_there load.BadChange k = refl
 
 pub applied_is_there : (bytes reply : List ℕ) (old new : Kept) → Applies (Some bytes) old reply new → is_absent reply ≡ false
-applied_is_there bytes reply old new (fits, inl p) = ap is_absent p.2.reply_is ∙ reported_there (length (outcome old p.0).closed - length old.closed) (length (outcome old p.0).waiting) (outcome old p.0).rejected
-applied_is_there bytes reply old new (fits, inr p) = ap is_absent p.3 ∙ bad_file_there p.1 p.0
+applied_is_there bytes reply old new (inl p) = ap is_absent p.2.reply_is ∙ reported_there (length (outcome old p.0).closed - length old.closed) (length (outcome old p.0).waiting) (outcome old p.0).rejected
+applied_is_there bytes reply old new (inr p) = ap is_absent p.3 ∙ bad_file_there p.1 p.0
 
 -- what a document shows is an object
 is_object : (form : Form) (entries : List Entry) → (members : Members) × (json_data form entries ≡ object members)

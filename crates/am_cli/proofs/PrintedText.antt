@@ -11,6 +11,8 @@ use Rattle.am_types.specs.declared.Hash.{Hash}
 use Rattle.am_types.specs.Operations.{all_operations}
 use Rattle.am_types.specs.Members.{Member, changes, holds}
 use Rattle.am_types.specs.Ancestors.{ancestors}
+use Rattle.am_types.specs.ValidSets.{Valid, IsValidSet}
+use Rattle.am_delivery.specs.Laws.{PartIsValid}
 use Rattle.am_types.specs.Replay.{replay as replay_of}
 use Rattle.am_json.specs.Shown.{json_data}
 use Rattle.am_json.specs.declared.Form.{Form}
@@ -45,3 +47,6 @@ none_unknown C (x ∷ xs) held =
 pub at_held : {E : Type 0} (r : Result (List ℕ) E) (form : Form) (hs : List Hash) (C : List Member) (cs : List Change) → cs ≡ changes (ancestors C hs) → All (λ h. holds C h ≡ true) hs
     → IfOk r (λ reply. reply ≡ printed (json_data form (replay_of (all_operations cs)))) → IfOk r (λ reply. reply ≡ reading_at form hs C)
 at_held r form hs C cs are held = IfOk-weaker r _ _ (λ reply e. e ∙ ap (λ list. printed (json_data form (replay_of (all_operations list)))) are ∙ ap (λ found. reading_by found form (visible C hs)) (sym (none_unknown C hs held)))
+
+pub valid_part : PartIsValid → (C : List Member) (hs : List Hash) (cs : List Change) → Valid C → cs ≡ changes (ancestors C hs) → IsValidSet cs
+valid_part law C hs cs valid are = record { set = ancestors C hs; are = sym are; valid = law C hs valid }

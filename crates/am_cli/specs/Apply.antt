@@ -2,7 +2,7 @@
 --     report_text added waiting rejected     how many changes joined and how many wait, and then what was rejected
 --     Delivers old cs reply new              the changes cs are delivered to the sets old, and leave the sets new
 --     Applies file old reply new             the changes of a file are, or the file is refused
-use Rattle.std.specs.Prelude.{◌≡◌, ℕ, ◌∷◌, List, [], ◌++◌, ◌-◌, ◌<◌, ◌^◌, length, codes, decimal, true, Option, None, Some, flat_map, IsPermutation, ◌⊎◌}
+use Rattle.std.specs.Prelude.{◌≡◌, ℕ, ◌∷◌, List, [], ◌++◌, ◌-◌, length, codes, decimal, true, Option, None, Some, flat_map, IsPermutation, ◌⊎◌}
 use Rattle.am_types.specs.declared.Change.{Change}
 use Rattle.am_types.specs.declared.Limit.{Limit}
 use Rattle.am_types.specs.declared.Limit.TheVariants.{Changes, Operations, Preds, Links}
@@ -68,9 +68,7 @@ load_word BadChange = codes "bad-change"
 abbrev pub bad_file : LoadFault → ℕ → List ℕ
 bad_file fault k = refused (load_word fault ++ codes " chunk " ++ decimal k)
 
--- a file has fewer than 2^64 bytes
 abbrev pub Applies : Option (List ℕ) → Kept → List ℕ → Kept → Type 0
 Applies None old reply new = (reply ≡ absent) × (new ≡ old)
-Applies (Some bytes) old reply new = (length bytes < 2 ^ 64)
-    × (((cs : List Change) × IsFile true bytes cs × Delivers old cs reply new)
-    ⊎ ((k : ℕ) × (fault : LoadFault) × FirstBad true bytes k fault × (reply ≡ bad_file fault k) × (new ≡ old)))
+Applies (Some bytes) old reply new = ((cs : List Change) × IsFile true bytes cs × Delivers old cs reply new)
+    ⊎ ((k : ℕ) × (fault : LoadFault) × FirstBad true bytes k fault × (reply ≡ bad_file fault k) × (new ≡ old))

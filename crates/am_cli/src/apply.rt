@@ -1,5 +1,5 @@
 //! Delivering the changes of a file.
-ghost use Rattle.std.specs.Prelude.{◌≡◌, ◌<◌, ◌^◌, ◌++◌, Some, length, flat_map, string_bytes, IfOk, OnOk};
+ghost use Rattle.std.specs.Prelude.{◌≡◌, ◌++◌, Some, flat_map, string_bytes, IfOk, OnOk};
 ghost use Rattle.am_cli.specs.Apply.{limit_word, why_text, rejected_line, report_text, load_word, bad_file, Applies};
 
 use crate::replies::hash_text;
@@ -99,19 +99,11 @@ fn bad_file(alloc: Global, fault: LoadFault, number: u64) -> Result<Bytes, Alloc
     Ok(Bytes::from(format!(in alloc; "refused {word} chunk {number}\n")?.into_bytes()))
 }
 
-// What the type says of bytes.
-fn bounded(bytes: &[u8])
-    ensures { length bytes.now < 2 ^ 64 }
-{
-    let _count = bytes.len();
-}
-
 /// Delivers the changes of a file, or tells the first of its chunks that is bad.
 #[tactic(auto, using(crate::proofs::Delivering::applied_whole, crate::proofs::Delivering::applied_bad))]
 pub fn apply(alloc: Global, store: &mut Store, bytes: &[u8]) -> Result<Bytes, AllocError>
     ensures { IfOk result (λ reply. Applies (Some bytes.now) store.old reply store.new) }
 {
-    bounded(bytes);
     match store.read_file(alloc, bytes, true) {
         Ok(report) => report_text(alloc, &report),
         Err(ReadFault::Load(error)) => bad_file(alloc, error.fault, error.chunk),

@@ -15,7 +15,6 @@ pub fn one_run()
 {
     am_frame::one_reading();
     am_store::one_reading();
-    am_store::files_may_come();
     am_delivery::listing_is_free();
     am_delivery::stays_stored();
     am_types::listing_is_free();

@@ -12,6 +12,7 @@ ghost use Rattle.am_cli.specs.Replies.{refused, hash_text};
 ghost use Rattle.am_cli.specs.Reading.{printed, reading_at, reading};
 
 use crate::replies::{hash_text, refusal};
+use am_delivery::part_is_valid;
 use am_json::{Form, JsonFault, JsonMaker, order_front};
 use am_replay::{entries_are_in_order, replay};
 use am_store::{ClockFault, Store};
@@ -66,9 +67,12 @@ fn unknown(alloc: Global, hash: &Hash) -> Result<Bytes, AllocError>
 }
 
 // What is visible at these hashes.
+#[tactic(auto, using(crate::proofs::PrintedText::valid_part))]
 fn read_at(alloc: Global, form: Form, hashes: &[Hash], store: &Store) -> Result<Bytes, AllocError>
     ensures { IfOk result (λ reply. reply ≡ reading_at form hashes.now store.now.closed) }
 {
+    part_is_valid();
+    let _graph = store.graph();
     match store.ancestors(alloc, hashes) {
         Ok(changes) => print(alloc, form, changes.as_slice()),
         Err(ClockFault::UnknownHead(hash)) => unknown(alloc, &hash),
