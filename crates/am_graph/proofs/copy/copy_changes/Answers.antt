@@ -1,10 +1,8 @@
 use Rattle.std.specs.Map.Iter.{deref_pair}
-use Rattle.std.proofs.Common.{◌≡◌, ◌∙◌, ◌<◌, ◌++◌, ◌∷◌, [], option_map, length, get_or, take, ap, sym, subst, arith}
-use Rattle.std.proofs.lemmas.List.{take_all}
+use Rattle.std.proofs.Common.{◌≡◌, ◌∙◌, ◌<◌, ◌++◌, ◌∷◌, [], option_map, length, get_or, take, ap, sym, arith}
 use Rattle.std.proofs.lemmas.Option.{get_or_from_slice_get}
 use Rattle.indexmap.specs.IndexMap.{insert_entry}
 use Rattle.am_types.specs.contracts.hash.HashPartialEq.TheImpl as equality
-use Rattle.am_graph.specs.Graphs.{is_held}
 use Rattle.am_graph.proofs.Copying.{fresh_next}
 use Rattle.am_graph.proofs.Held.{entries_pushed}
 use Rattle.am_graph.proofs.Named.{take_one}

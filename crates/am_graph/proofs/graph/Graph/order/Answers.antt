@@ -1,4 +1,4 @@
-use Rattle.std.proofs.Common.{◌≡◌, ◌∙◌, ap, map}
+use Rattle.std.proofs.Common.{◌∙◌, ap, map}
 use Rattle.am_graph.proofs.Ranking.{ranked_order}
 use Rattle.am_graph.proofs.graph.Graph.order.Goals as goal
 

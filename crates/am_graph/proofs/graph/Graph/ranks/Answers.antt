@@ -1,8 +1,7 @@
 use Rattle.std.specs.Map.Iter.{deref_pair}
-use Rattle.std.proofs.Common.{◌≡◌, ◌∙◌, ◌<◌, option_map, length, map, ap, sym, arith}
+use Rattle.std.proofs.Common.{◌∙◌, ◌<◌, option_map, length, map, ap, sym, arith}
 use Rattle.std.proofs.lemmas.List.{take_all}
 use Rattle.std.proofs.lemmas.Option.{get_or_from_slice_get}
-use Rattle.am_graph.specs.Graphs.{nodes}
 use Rattle.am_graph.specs.Ranks.{rank_of, rank_in}
 use Rattle.am_graph.specs.Whole.{authors_of, first_in}
 use Rattle.am_graph.proofs.Growing.{length_nodes}
