@@ -45,7 +45,7 @@ contents-front c =
 record Short (f : Front) (rest : List ℕ) : Type 0 where
   message : length f.message < 2 ^ 64
   others : length (actors_bytes f.others) < 2 ^ 64
-  rest : length rest < 2 ^ 64
+  behind : length rest < 2 ^ 64
 
 short_parts : (a b c d e f g h r : List ℕ) (n : ℕ) → length ((a ++ (b ++ (c ++ (d ++ (e ++ (f ++ (g ++ h))))))) ++ r) < n → (length f < n) × (length g < n) × (length r < n)
 short_parts a b c d e f g h r n s =
@@ -62,7 +62,7 @@ short_parts a b c d e f g h r n s =
 short : (f : Front) (rest : List ℕ) → length (front_bytes f ++ rest) < 2 ^ 64 → Short f rest
 short f rest s =
     let p = short_parts (hashes_bytes f.deps) (prefixed f.actor) (uleb f.seq) (uleb f.start) (leb f.time) (prefixed f.message) (actors_bytes f.others) (metadata f.listed) rest (2 ^ 64) s in
-    record { message = (let l = length-append (uleb (length f.message)) f.message in let h = p.0 in omega arith); others = p.1; rest = p.2 }
+    record { message = (let l = length-append (uleb (length f.message)) f.message in let h = p.0 in omega arith); others = p.1; behind = p.2 }
 
 all_short : (xs : List (List ℕ)) (n : ℕ) → length (flat_map prefixed xs) ≤ n → n < 2 ^ 64 → AllByRecursion IsPrefixed xs × (length xs ≤ n)
 all_short [] n h s = (tt, omega arith)
@@ -111,9 +111,28 @@ plain actors ops =
     (no 0 refl, (no 0 refl, (no 0 refl, (no 0 refl, (no 0 refl, (no 0 refl, (no 0 refl, (no 0 refl, (no 0 refl, (no 0 refl, (no 0 refl, (no 0 refl, (no 0 refl, (no 0 refl, tt))))))))))))))
 
 are_known : (actors : List (List ℕ)) (ops : List Op) → AllByRecursion (λ c. Contains known c.0) (spellings actors (op_columns ops))
-are_known actors ops =
-    ((0, omega arith, refl), ((1, omega arith, refl), ((2, omega arith, refl), ((3, omega arith, refl), ((4, omega arith, refl), ((5, omega arith, refl), ((6, omega arith, refl),
-    ((7, omega arith, refl), ((8, omega arith, refl), ((9, omega arith, refl), ((10, omega arith, refl), ((11, omega arith, refl), ((12, omega arith, refl), ((13, omega arith, refl), tt))))))))))))))
+are_known actors ops = (
+  (0, omega arith, refl),
+  (
+    (1, omega arith, refl),
+    (
+      (2, omega arith, refl),
+      (
+        (3, omega arith, refl),
+        (
+          (4, omega arith, refl),
+          (
+            (5, omega arith, refl),
+            (
+              (6, omega arith, refl),
+              ((7, omega arith, refl), ((8, omega arith, refl), ((9, omega arith, refl), ((10, omega arith, refl), ((11, omega arith, refl), ((12, omega arith, refl), ((13, omega arith, refl), tt))))))),
+            ),
+          ),
+        ),
+      ),
+    ),
+  ),
+)
 
 low : (actors : List (List ℕ)) (ops : List Op) → AllByRecursion (λ c. c.0 < 2 ^ 64) (spellings actors (op_columns ops))
 low actors ops = (omega arith, (omega arith, (omega arith, (omega arith, (omega arith, (omega arith, (omega arith, (omega arith, (omega arith, (omega arith, (omega arith, (omega arith, (omega arith, (omega arith, tt))))))))))))))
@@ -151,7 +170,7 @@ short_behind c s =
     let size : length (front_bytes (front c) ++ (body (written_columns c.actor c.ops) ++ c.extra)) < 2 ^ 64 = subst (λ (b : List ℕ). length b < 2 ^ 64) (contents-front c) s in
     let parts = short (front c) (body (written_columns c.actor c.ops) ++ c.extra) size in
     let l = length-append (body (written_columns c.actor c.ops)) c.extra in
-    let r = parts.rest in
+    let r = parts.behind in
     omega arith
 
 pub is_front : (c : Change) → Fine c → length (contents c) < 2 ^ 64 → IsFront (front c)
@@ -196,6 +215,6 @@ contents-same c d good fine s e =
     let actor : d.actor ≡ c.actor = sym (ap (λ f. f.actor) parts.0) in
     let named : others d.actor d.ops ≡ others c.actor c.ops = sym (ap (λ f. f.others) parts.0) in
     let here : SpellsOps (c.actor ∷ others c.actor c.ops) (written_columns c.actor c.ops) d.ops =
-        subst (P c.actor (others c.actor c.ops)) (sym same.0) (subst (λ os. P c.actor os (written_columns d.actor d.ops)) named (subst (λ a. P a (others d.actor d.ops) (written_columns d.actor d.ops)) actor theirs)) in
+    subst (P c.actor (others c.actor c.ops)) (sym same.0) (subst (λ os. P c.actor os (written_columns d.actor d.ops)) named (subst (λ a. P a (others d.actor d.ops) (written_columns d.actor d.ops)) actor theirs)) in
     let ops = ops-same (c.actor ∷ others c.actor c.ops) (written_columns c.actor c.ops) c.ops d.ops (own_ops c good s) here in
     ap (λ f. change_with f c.ops c.extra) parts.0 ∙ ap (λ o. change_with (front d) o c.extra) ops ∙ ap (λ x. change_with (front d) d.ops x) same.1

@@ -1,20 +1,20 @@
 -- What stands first in bytes, and what is behind it.
-use Rattle.std.proofs.Common.{◌≡◌, ℕ, zero, suc, ◌+◌, ◌*◌, ◌<◌, ◌≤◌, ◌^◌, List, [], ◌∷◌, ◌++◌, length, take, drop, refl, sym, ap, ◌∙◌, arith, append_assoc}
-use Rattle.std.specs.Prelude.{Result, Ok, ℤ}
+use Rattle.std.proofs.Common.{◌≡◌, ℕ, zero, suc, ◌+◌, ◌-◌, ◌*◌, ◌<◌, ◌≤◌, ◌^◌, List, [], ◌∷◌, ◌++◌, length, take, drop, refl, sym, ap, ◌∙◌, subst, arith, append_assoc}
+use Rattle.std.specs.Prelude.{Result, Ok, ℤ, FitsSigned}
+use Rattle.std.specs.Int.{w64}
 use Rattle.std.specs.Result.{result_unwrap_or}
 use Rattle.std.specs.List.{flat_map, AllByRecursion}
 use Rattle.std.proofs.lemmas.List.{take-append-drop, length-append, length-drop, length-take-le, take_at, drop_at, nil_from_length}
 use Rattle.std.proofs.Math.Seq.{drop-append_seam}
-use Rattle.am_leb.specs.declared.LebFault.{LebFault}
 use Rattle.am_leb.specs.Leb.{uleb, leb, signed_value, IsSpelling}
 use Rattle.am_leb.proofs.SignedLaws.{leb_is}
 use Rattle.am_types.specs.declared.Hash.{Hash}
-use Rattle.am_colmeta.specs.Metadata.{metadata, pair_bytes}
-use Rattle.am_colmeta.specs.Actors.{prefixed, actors_bytes}
+use Rattle.am_colmeta.specs.Metadata.{metadata, pair_bytes, AreListed}
+use Rattle.am_colmeta.specs.Actors.{prefixed, actors_bytes, AreActors}
 use Rattle.am_colmeta.proofs.Splitting.{number-Splits, pair-Splits, prefixed-Splits, counted-Splits}
 use Rattle.am_fields.proofs.Lists.{same_parts}
 use Rattle.am_change.specs.Contents.{hashes_bytes}
-use Rattle.am_change.specs.Fronts.{Front, front_bytes, Has32}
+use Rattle.am_change.specs.Fronts.{Front, front_bytes, Has32, IsFront}
 use Rattle.am_change.specs.Building.{hash_with, hashes_in}
 
 pub front_is : (bytes front rest : List ℕ) (size : ℕ) → take size bytes ≡ front → rest ≡ drop size bytes → bytes ≡ front ++ rest
@@ -23,8 +23,8 @@ front_is bytes front rest size f b = sym (take-append-drop size bytes) ∙ ap (�
 pub behind_is : (bytes front rest more : List ℕ) (size : ℕ) → size ≡ length front → rest ≡ drop size bytes → bytes ≡ front ++ more → rest ≡ more
 behind_is bytes front rest more size long b e = b ∙ ap (λ k. drop k bytes) long ∙ ap (drop (length front)) e ∙ drop-append_seam front more
 
-pub fields : {A : Type 0} (a c : A) (b d : ℕ) → ◌≡◌ {A = Result (A × ℕ) LebFault} (Ok (a, b)) (Ok (c, d)) → (a ≡ c) × (b ≡ d)
-fields {A = A} a c b d e = (ap (λ r. (result_unwrap_or {T = A × ℕ} r (a, 0)).0) e, ap (λ r. (result_unwrap_or {T = A × ℕ} r (a, 0)).1) e)
+pub fields : {A E : Type 0} (a c : A) (b d : ℕ) → ◌≡◌ {A = Result (A × ℕ) E} (Ok (a, b)) (Ok (c, d)) → (a ≡ c) × (b ≡ d)
+fields {A = A} {E = E} a c b d e = (ap (λ (r : Result (A × ℕ) E). (result_unwrap_or {T = A × ℕ} r (a, 0)).0) e, ap (λ (r : Result (A × ℕ) E). (result_unwrap_or {T = A × ℕ} r (a, 0)).1) e)
 
 -- the bytes behind a length
 
@@ -44,6 +44,17 @@ prefixed_only bytes body text rest others more n count e t r = (
 pub length-hashes_in : (n : ℕ) (bytes : List ℕ) → length (hashes_in n bytes) ≡ n
 length-hashes_in zero bytes = refl
 length-hashes_in (suc n) bytes = ap suc (length-hashes_in n (drop 32 bytes))
+
+pub hashes_in-next : (n : ℕ) (bytes : List ℕ) → 0 < n → hashes_in n bytes ≡ hash_with (take 32 bytes) ∷ hashes_in (n - 1) (drop 32 bytes)
+hashes_in-next zero bytes h = absurd (omega arith)
+hashes_in-next (suc n) bytes h = ap (λ k. hash_with (take 32 bytes) ∷ hashes_in k (drop 32 bytes)) (let e : n ≡ suc n - 1 = omega arith in e)
+
+-- one more hash is read
+pub hashes_step : (hashes whole next : List Hash) (bytes first more : List ℕ) (n : ℕ) → 0 < n → first ≡ take 32 bytes → more ≡ drop 32 bytes → next ≡ hashes ++ hash_with first ∷ [] → hashes ++ hashes_in n bytes ≡ whole → next ++ hashes_in (n - 1) more ≡ whole
+hashes_step hashes whole next bytes first more n some f m e so_far =
+    ap (λ z. z ++ hashes_in (n - 1) more) e ∙ append_assoc hashes (hash_with first ∷ []) (hashes_in (n - 1) more)
+    ∙ ap (λ z. hashes ++ hash_with z ∷ hashes_in (n - 1) more) f ∙ ap (λ z. hashes ++ hash_with (take 32 bytes) ∷ hashes_in (n - 1) z) m
+    ∙ ap (λ z. hashes ++ z) (sym (hashes_in-next n bytes some)) ∙ so_far
 
 pub bytes-hashes_in : (n : ℕ) (bytes : List ℕ) → length bytes ≡ 32 * n → flat_map (λ h. h.0) (hashes_in n bytes) ≡ bytes
 bytes-hashes_in zero bytes e = sym (nil_from_length bytes (e ∙ (let z : 32 * 0 ≡ 0 = refl in z)))
@@ -120,11 +131,10 @@ signed-Splits y z r s e =
 pub right : (a b c d e f g h r : List ℕ) → (a ++ (b ++ (c ++ (d ++ (e ++ (f ++ (g ++ h))))))) ++ r ≡ a ++ (b ++ (c ++ (d ++ (e ++ (f ++ (g ++ (h ++ r)))))))
 right a b c d e f g h r = simp append_assoc
 
-front_with : List Hash → List ℕ → ℕ → ℕ → ℤ → List ℕ → List (List ℕ) → List (ℕ × ℕ) → Front
+abbrev pub front_with : List Hash → List ℕ → ℕ → ℕ → ℤ → List ℕ → List (List ℕ) → List (ℕ × ℕ) → Front
 front_with deps actor seq start time message others listed = record { deps = deps; actor = actor; seq = seq; start = start; time = time; message = message; others = others; listed = listed }
 
-front-same : (f g : Front) → f.deps ≡ g.deps → f.actor ≡ g.actor → f.seq ≡ g.seq → f.start ≡ g.start → f.time ≡ g.time → f.message ≡ g.message → f.others ≡ g.others → f.listed ≡ g.listed → f ≡ g
-unfolding front_with
+pub front-same : (f g : Front) → f.deps ≡ g.deps → f.actor ≡ g.actor → f.seq ≡ g.seq → f.start ≡ g.start → f.time ≡ g.time → f.message ≡ g.message → f.others ≡ g.others → f.listed ≡ g.listed → f ≡ g
 front-same f g a b c d e h i j =
     ap (λ x. front_with x f.actor f.seq f.start f.time f.message f.others f.listed) a
     ∙ ap (λ x. front_with g.deps x f.seq f.start f.time f.message f.others f.listed) b
@@ -152,8 +162,8 @@ front-splits f g r s a b e =
     let r2 = prefixed f.actor ++ r3 in
     let s2 = prefixed g.actor ++ s3 in
     let whole : hashes_bytes f.deps ++ r2 ≡ hashes_bytes g.deps ++ s2 =
-        sym (right (hashes_bytes f.deps) (prefixed f.actor) (uleb f.seq) (uleb f.start) (leb f.time) (prefixed f.message) (actors_bytes f.others) (metadata f.listed) r) ∙ e
-        ∙ right (hashes_bytes g.deps) (prefixed g.actor) (uleb g.seq) (uleb g.start) (leb g.time) (prefixed g.message) (actors_bytes g.others) (metadata g.listed) s in
+    sym (right (hashes_bytes f.deps) (prefixed f.actor) (uleb f.seq) (uleb f.start) (leb f.time) (prefixed f.message) (actors_bytes f.others) (metadata f.listed) r) ∙ e
+    ∙ right (hashes_bytes g.deps) (prefixed g.actor) (uleb g.seq) (uleb g.start) (leb g.time) (prefixed g.message) (actors_bytes g.others) (metadata g.listed) s in
     let deps = hashes-split f.deps g.deps r2 s2 a b whole in
     let actor = prefixed-Splits f.actor g.actor r3 s3 deps.1 in
     let seq = number-Splits f.seq g.seq r4 s4 actor.1 in
@@ -163,3 +173,40 @@ front-splits f g r s a b e =
     let named = counted-Splits prefixed prefixed-Splits f.others g.others r8 s8 message.1 in
     let listed = counted-Splits pair_bytes pair-Splits f.listed g.listed r s named.1 in
     (front-same f g deps.0 actor.0 seq.0 start.0 time.0 message.0 named.0 listed.0, listed.1)
+
+-- what a reader of the parts has read
+
+abbrev pub reading : ℕ → List ℕ → List ℕ → ℕ → ℕ → ℤ → List ℕ → List (List ℕ) → List (ℕ × ℕ) → Front
+reading count hashes actor seq start time message others listed = front_with (hashes_in count hashes) actor seq start time message others listed
+
+pub read_is : (bytes hashes actor message r0 r1 r2 r3 r4 : List ℕ) (count seq start : ℕ) (time again : ℤ) (others : List (List ℕ)) (listed : List (ℕ × ℕ)) → again ≡ time
+    → bytes ≡ hashes_bytes (hashes_in count hashes) ++ r0 → length hashes ≡ 32 * count → count < 2 ^ 64
+    → r0 ≡ prefixed actor ++ r1 → length actor < 2 ^ 64
+    → r1 ≡ uleb seq ++ (uleb start ++ (leb time ++ r2)) → seq < 2 ^ 64 → start < 2 ^ 64 → FitsSigned w64 time
+    → r2 ≡ prefixed message ++ r3 → length message < 2 ^ 64
+    → r3 ≡ actors_bytes others ++ (metadata listed ++ r4) → AreActors others → AreListed listed
+    → IsFront (reading count hashes actor seq start again message others listed) × (bytes ≡ front_bytes (reading count hashes actor seq start again message others listed) ++ r4)
+read_is bytes hashes actor message r0 r1 r2 r3 r4 count seq start time again others listed back e0 size few e1 short e2 seq_fits start_fits time_fits e3 text e4 named pairs =
+    let deps = hashes_bytes (hashes_in count hashes) in
+    let P : ℤ → Type 0 = λ z. IsFront (reading count hashes actor seq start z message others listed) × (bytes ≡ front_bytes (reading count hashes actor seq start z message others listed) ++ r4) in
+    let whole : bytes ≡ deps ++ (prefixed actor ++ (uleb seq ++ (uleb start ++ (leb time ++ (prefixed message ++ (actors_bytes others ++ (metadata listed ++ r4))))))) =
+    e0 ∙ ap (λ z. deps ++ z) (e1 ∙ ap (λ z. prefixed actor ++ z) (e2 ∙ ap (λ z. uleb seq ++ (uleb start ++ (leb time ++ z))) (e3 ∙ ap (λ z. prefixed message ++ z) e4))) in
+    subst P (sym back) (
+      record {
+        hashes = sized-hashes_in count hashes size;
+        deps = subst (λ n. n < 2 ^ 64) (sym (length-hashes_in count hashes)) few;
+        actor = short;
+        seq = seq_fits;
+        start = start_fits;
+        time = time_fits;
+        message = text;
+        others = named;
+        listed = pairs;
+      },
+      whole ∙ sym (right deps (prefixed actor) (uleb seq) (uleb start) (leb time) (prefixed message) (actors_bytes others) (metadata listed) r4),
+    )
+
+-- the parts of a front, from the left
+pub from_left : (f : Front) (bytes rest : List ℕ) → bytes ≡ front_bytes f ++ rest
+    → bytes ≡ hashes_bytes f.deps ++ (prefixed f.actor ++ (uleb f.seq ++ (uleb f.start ++ (leb f.time ++ (prefixed f.message ++ (actors_bytes f.others ++ (metadata f.listed ++ rest)))))))
+from_left f bytes rest e = e ∙ right (hashes_bytes f.deps) (prefixed f.actor) (uleb f.seq) (uleb f.start) (leb f.time) (prefixed f.message) (actors_bytes f.others) (metadata f.listed) rest

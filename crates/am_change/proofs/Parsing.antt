@@ -1,6 +1,7 @@
 -- What a reader finds, against any fine change with the same contents.
 use Rattle.std.proofs.Common.{◌≡◌, ℕ, ◌<◌, ◌≤◌, ◌^◌, List, [], ◌∷◌, ◌++◌, length, map, take, drop, refl, sym, ap, ◌∙◌, subst, arith, inl, inr, ◌⊎◌}
-use Rattle.std.specs.Prelude.{Result, Ok, Err}
+use Rattle.std.specs.Prelude.{Result, Ok, Err, bytes_eq, not, Bool, true, false}
+use Rattle.std.proofs.lemmas.Slice.Eq.{bytes_eq-Decides}
 use Rattle.std.specs.List.{AllByRecursion}
 use Rattle.std.proofs.lemmas.List.{length-append, take_at, drop_at}
 use Rattle.am_types.specs.declared.Op.{Op}
@@ -45,18 +46,20 @@ short_as bytes c s e = subst (λ (b : List ℕ). length b < 2 ^ 64) e s
 
 -- no front stands there
 pub no_front : (bytes : List ℕ) → length bytes < 2 ^ 64 → ((f : Front) (rest : List ℕ) → IsFront f → bytes ≡ front_bytes f ++ rest → ⊥) → Judges bytes (Err BadChange)
-no_front bytes s none =
-    (λ k. none k.parts k.rest k.is_front k.bytes_are,
-     λ c fine e. none (front c) (body (written_columns c.actor c.ops) ++ c.extra) (is_front c fine (short_as bytes c s e)) (e ∙ contents-front c))
+no_front bytes s none = (
+  λ k. none k.parts k.rest k.is_front k.bytes_are,
+  λ c fine e. none (front c) (body (written_columns c.actor c.ops) ++ c.extra) (is_front c fine (short_as bytes c s e)) (e ∙ contents-front c),
+)
 
 -- a front stands there, and no fine change has it with what is behind it
 pub no_change : (bytes : List ℕ) (f : Front) (rest : List ℕ) → length bytes < 2 ^ 64 → IsFront f → bytes ≡ front_bytes f ++ rest → (AreCompressed f.listed → ⊥)
     → ((c : Change) → Fine c → length (contents c) < 2 ^ 64 → f ≡ front c → rest ≡ body (written_columns c.actor c.ops) ++ c.extra → bytes ≡ contents c → ⊥) → Judges bytes (Err BadChange)
-no_change bytes f rest s is e plain none =
-    (plain_front bytes f rest is e plain,
-     λ c fine b.
-         let same = front-splits f (front c) rest (body (written_columns c.actor c.ops) ++ c.extra) is.hashes (deps_sized c fine) (sym e ∙ b ∙ contents-front c) in
-         none c fine (short_as bytes c s b) same.0 same.1 b)
+no_change bytes f rest s is e plain none = (
+  plain_front bytes f rest is e plain,
+  λ c fine b.
+      let same = front-splits f (front c) rest (body (written_columns c.actor c.ops) ++ c.extra) is.hashes (deps_sized c fine) (sym e ∙ b ∙ contents-front c) in
+      none c fine (short_as bytes c s b) same.0 same.1 b,
+)
 
 -- behind the front
 
@@ -126,3 +129,10 @@ one_judgement bytes (Err CompressedColumn) (Ok d) s h k = absurd (fine_plain byt
 one_judgement bytes (Err CompressedColumn) (Err BadChange) s h k = absurd (k.0 h)
 one_judgement bytes (Err CompressedColumn) (Err CompressedColumn) s h k = inr (inr refl)
 one_judgement bytes (Err CompressedColumn) (Err NoMemory) s h k = inr (inl refl)
+
+pub same_bytes : (a b : List ℕ) → false ≡ not (bytes_eq a b) → a ≡ b
+same_bytes a b e = by_answer (bytes_eq a b) refl e
+  where
+    by_answer : (t : Bool) → bytes_eq a b ≡ t → false ≡ not t → a ≡ b
+    by_answer true is e = (bytes_eq-Decides a b).0 is
+    by_answer false is e = absurd (cc)

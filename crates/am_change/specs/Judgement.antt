@@ -3,7 +3,7 @@
 --                             a column is compressed; or that neither is so. Want of memory may come at any time.
 --     HasOwnHashes C          each member of a set of changes stands beside its own hash
 use Rattle.std.specs.Prelude.{◌≡◌, ℕ, List, All, Result, Ok, Err, ⊤}
-use Rattle.am_types.specs.Records.{Change}
+use Rattle.am_types.specs.declared.Change.{Change}
 use Rattle.am_types.specs.Fine.{Fine}
 use Rattle.am_types.specs.Members.{Member}
 use Rattle.am_change.specs.declared.fault.ChangeFault.{ChangeFault}

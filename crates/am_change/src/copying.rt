@@ -4,7 +4,7 @@ ghost use Rattle.std.specs.List.{AllByRecursion};
 ghost use Rattle.am_types.specs.Views.{id_of, object_of, key_of, value_of};
 ghost use Rattle.am_fields.specs.Limits.{IsWithin, IsObjectWithin, IsKeyWithin};
 ghost use Rattle.am_opcols.specs.Rows.{op_of};
-ghost use Rattle.am_change.specs.Building.{hashes_in, IsOpWithin};
+ghost use Rattle.am_change.specs.Building.{hash_with, hashes_in, IsOpWithin};
 
 use am_opcols::{OpCursor, OpRef, PredCursor};
 use am_types::{
@@ -44,6 +44,16 @@ pub fn actor_in(alloc: Global, bytes: &[u8]) -> Result<ActorId, AllocError>
     }
 }
 
+// The hash of these bytes.
+fn hash_in(bytes: &[u8]) -> Hash
+    requires { length bytes.now ≡ 32 }
+    ensures { result ≡ hash_with bytes.now }
+{
+    let mut hash = [0u8; 32];
+    hash.copy_from_slice(bytes);
+    Hash(hash)
+}
+
 // The hashes that stand one after another, owned.
 pub fn hashes_of(alloc: Global, bytes: &[u8], count: u64) -> Result<List<Hash>, AllocError>
     requires { length bytes.now ≡ 32 * count }
@@ -51,12 +61,12 @@ pub fn hashes_of(alloc: Global, bytes: &[u8], count: u64) -> Result<List<Hash>, 
 {
     let mut hashes = List::new(alloc);
     let mut rest = bytes;
-    for _ in 0..count {
+    let mut left = count;
+    while left > 0 {
         let (first, more) = rest.split_at(32);
-        let mut hash = [0u8; 32];
-        hash.copy_from_slice(first);
-        hashes.push(Hash(hash))?;
+        hashes.push(hash_in(first))?;
         rest = more;
+        left -= 1;
     }
     Ok(hashes)
 }

@@ -8,6 +8,8 @@ mod front;
 mod laws;
 mod numbers;
 mod parse;
+#[cfg(test)]
+mod tests;
 mod write;
 
 pub use fault::ChangeFault;

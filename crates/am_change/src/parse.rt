@@ -22,16 +22,11 @@ use std::alloc::{AllocError, Global};
 use std::str::from_utf8;
 
 // The specifications of the columns that the operations of a change may have.
-const KNOWN: [u64; 14] = [
-    1, 2, 17, 19, 21, 52, 66, 86, 87, 112, 113, 115, 148, 165,
-];
+const KNOWN: [u64; 14] = [1, 2, 17, 19, 21, 52, 66, 86, 87, 112, 113, 115, 148, 165];
 
 // The operations behind the front of a change, its message, and the bytes behind the columns; None where there are no
 // such.
-fn opened<'a>(
-    front: &FrontRef<'a>,
-    rest: &'a [u8],
-) -> Option<(OpCursor<'a>, &'a str, &'a [u8])>
+fn opened<'a>(front: &FrontRef<'a>, rest: &'a [u8]) -> Option<(OpCursor<'a>, &'a str, &'a [u8])>
     ensures ops { IfSome result (λ r. AllByRecursion IsOpWithin r.0) }
     ensures message { IfSome result (λ r. r.1.now ≡ front.now.message.now) }
     ensures some { IfSome result (λ r. 1 ≤ length front.now.actor.now) }
@@ -86,11 +81,18 @@ fn built(
     })
 }
 
+// The length of a slice fits 64 bits.
+fn length_known(bytes: &[u8])
+    ensures { length bytes.now < 2 ^ 64 }
+{
+    let _size = bytes.len();
+}
+
 // The change with these contents.
 fn parsed(alloc: Global, bytes: &[u8]) -> Result<Change, ChangeFault>
     ensures { Judges bytes.now result }
 {
-    let _size = bytes.len();
+    length_known(bytes);
     let Some((front, rest)) = FrontRef::read(bytes) else {
         return Err(ChangeFault::BadChange);
     };
@@ -119,6 +121,6 @@ pub fn parse_change(alloc: Global, bytes: &[u8]) -> Result<Change, ChangeFault>
     // The contents of a fine change are read as this change.
     ensures complete { (c : Change) → Fine c → bytes.now ≡ contents c → (result ≡ Ok c) ⊎ (result ≡ Err ChangeFault.NoMemory) }
 {
-    let _size = bytes.len();
+    length_known(bytes);
     parsed(alloc, bytes)
 }

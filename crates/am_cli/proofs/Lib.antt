@@ -1,6 +1,10 @@
+pub mod Ascending
+pub mod Delivering
 pub mod Lines
+pub mod LineWords
 pub mod OneRun
 pub mod Plans
+pub mod Present
 pub mod Reading
 pub mod Source
 pub mod Steps

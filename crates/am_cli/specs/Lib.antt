@@ -1,5 +1,9 @@
+pub mod Line
 pub mod Script
 pub mod Words
+pub mod Replies
+pub mod Listing
+pub mod Apply
 pub mod Machine
 pub mod Ends
 pub mod Carried

@@ -2,7 +2,7 @@
 use Rattle.std.proofs.Common.{ℕ, ◌≡◌, List, [], ◌∷◌, ◌++◌, map, Option, Some, None, Result, Ok, Err, OnErr, option_map, refl, sym, ap, ◌∙◌, subst, length, take}
 use Rattle.std.specs.Map.{lookup}
 use Rattle.std.specs.HashMap.{HashMap}
-use Rattle.std.proofs.lemmas.List.{map_push, take-map, take_at, length-map}
+use Rattle.std.proofs.lemmas.List.{map_push, take-map, take_at}
 use Rattle.std.proofs.lemmas.List.Elements.{All-push, All-take}
 use Rattle.indexmap.specs.IndexMap.{insert_entry}
 use Rattle.indexmap.proofs.CallerLemmas.{insert_entry-new}

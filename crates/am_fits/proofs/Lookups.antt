@@ -1,5 +1,5 @@
 -- A look-up by key finds what stands beside the id that the key stands for.
-use Rattle.std.proofs.Common.{ℕ, suc, ◌≡◌, ◌<◌, ◌&&◌, ◌==◌, List, [], ◌∷◌, length, map, Bool, true, false, Option, Some, None, option_map, refl, sym, ap, ◌∙◌, subst, inl, inr, All, cond, arith, eq-eqb}
+use Rattle.std.proofs.Common.{ℕ, suc, ◌≡◌, ◌==◌, List, [], ◌∷◌, map, true, false, Some, None, option_map, refl, sym, ap, ◌∙◌, subst, inl, inr, All, cond, arith, eq-eqb}
 use Rattle.std.specs.Map.{lookup}
 use Rattle.std.proofs.lemmas.Bool.{cases_Bool, and_from, and_parts, eqb-true}
 use Rattle.am_types.specs.declared.OpId.{OpId}
@@ -10,8 +10,8 @@ use Rattle.am_graph.specs.Reaches.{number}
 use Rattle.am_fits.specs.declared.table.IdKey.{IdKey}
 use Rattle.am_fits.specs.declared.table.Kept.{Kept}
 use Rattle.am_fits.specs.contracts.table.IdKeyPartialEq.TheImpl as equality
-use Rattle.am_fits.specs.Facts.{Fact, fact_with}
-use Rattle.am_fits.specs.Words.{Words, text_at, id_in, fact_in, entry_in, IsIdOf, IsKept, AreKept}
+use Rattle.am_fits.specs.Facts.{fact_with}
+use Rattle.am_fits.specs.Words.{Words, id_in, fact_in, entry_in, IsIdOf, IsKept, AreKept}
 use Rattle.am_fits.proofs.Interned.{id_is}
 
 pub same_key-true : (a b : IdKey) → equality.eq-value.it a b ≡ true → a ≡ b

@@ -1,10 +1,10 @@
 -- The operations of a change, by their places.
-use Rattle.std.proofs.Common.{ℕ, zero, suc, ◌≡◌, ◌+◌, ◌-◌, ◌<◌, ◌≤◌, ◌&&◌, List, [], ◌∷◌, ◌++◌, length, get_or, take, map, nat_le, nat_lt, Bool, true, false, Option, Some, None, option_map, slice_get, cond, refl, sym, ap, ◌∙◌, subst, inl, inr, All, Contains, arith}
+use Rattle.std.proofs.Common.{ℕ, zero, suc, ◌≡◌, ◌+◌, ◌-◌, ◌<◌, ◌≤◌, ◌&&◌, List, [], ◌∷◌, ◌++◌, length, get_or, take, nat_le, nat_lt, Bool, true, false, Option, Some, None, option_map, slice_get, cond, refl, sym, ap, ◌∙◌, subst, inl, inr, All, Contains, arith}
 use Rattle.std.specs.List.{list_any}
 use Rattle.std.specs.Option.{option_map_or}
 use Rattle.std.proofs.lemmas.Bool.{cases_Bool, both_ways, and_from, and_parts, leb-true, ltb-true, le-leb, lt-ltb, false_from_ne_true}
 use Rattle.std.proofs.lemmas.Cmp.{nat_list_eq_equiv}
-use Rattle.std.proofs.lemmas.List.{length-take, get_or-take, take_more, map_push, length-take-le}
+use Rattle.std.proofs.lemmas.List.{length-take, get_or-take, take_more, map_push}
 use Rattle.std.proofs.lemmas.List.Folds.{Any-from_list_any, list_any_at}
 use Rattle.std.proofs.lemmas.Option.{slice_get-get_or, slice_get_within, get_or_from_slice_get}
 use Rattle.am_types.specs.declared.OpId.{OpId}

@@ -2,7 +2,7 @@
 --     totals_of cs         how many changes cs are, and how many operations, predecessors and dependencies they have in all
 --     totals_with t c      those of the changes with the totals t, and of c
 --     limit_of t           the first limit that changes with the totals t pass
-use Rattle.std.specs.Prelude.{ℕ, ◌+◌, ◌^◌, ◌≤◌, List, [], ◌∷◌, length, sum_by, Option}
+use Rattle.std.specs.Prelude.{◌+◌, ◌^◌, ◌≤◌, List, [], ◌∷◌, length, sum_by, Option}
 use Rattle.am_types.specs.declared.Change.{Change}
 use Rattle.am_types.specs.declared.Limit.{Limit}
 use Rattle.am_types.specs.declared.Limit.TheVariants.{Changes, Operations, Preds, Links}

@@ -16,7 +16,12 @@ use am_types::{Change, Hash, Verdict};
 use std::alloc::{AllocError, Global};
 
 /// Whether the change fits the set of this graph and this index, or the first reason why it doesn't.
-pub fn fits(alloc: Global, graph: &Graph, index: &OpIndex, change: &Change) -> Result<Verdict, AllocError>
+pub fn fits(
+    alloc: Global,
+    graph: &Graph,
+    index: &OpIndex,
+    change: &Change,
+) -> Result<Verdict, AllocError>
     requires { MayJoin graph.now index.now change.now }
     ensures { IfOk result (λ found. ForValid graph.now index.now (λ C. found ≡ verdict C change.now)) }
 {

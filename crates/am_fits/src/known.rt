@@ -42,7 +42,9 @@ impl<'a> Known<'a> {
         requires { self.now.change.now.start + place < 2 ^ 53 }
         ensures { result ≡ good_by (told self.now.reached self.now.index.now.facts self.now.change.now place) (own self.now.change.now place op.now) }
     {
-        self.object_takes(place, op) && self.element_is_known(place, op) && self.preds_are_known(place, op)
+        self.object_takes(place, op)
+            && self.element_is_known(place, op)
+            && self.preds_are_known(place, op)
     }
 
     /// Whether the object is there, and takes the key.
@@ -51,7 +53,8 @@ impl<'a> Known<'a> {
     {
         match &op.obj {
             ObjId::Root => takes(0, &op.key),
-            ObjId::Made(id) => makes(self.ancestor(id), &op.key) || makes(self.own(id, place), &op.key),
+            ObjId::Made(id) => makes(self.ancestor(id), &op.key)
+                || makes(self.own(id, place), &op.key),
         }
     }
 
@@ -62,7 +65,8 @@ impl<'a> Known<'a> {
         match &op.key {
             Key::Name(_) => true,
             Key::Head => true,
-            Key::Elem(id) => inserts(self.ancestor(id), &op.obj) || inserts(self.own(id, place), &op.obj),
+            Key::Elem(id) => inserts(self.ancestor(id), &op.obj)
+                || inserts(self.own(id, place), &op.obj),
         }
     }
 
@@ -85,7 +89,13 @@ impl<'a> Known<'a> {
     }
 
     /// Whether an operation with the id is there, and gives a value to the slot of the object.
-    fn pred_is_known(&self, place: usize, object: ObjRef<'_>, slot: SlotRef<'_>, pred: &OpId) -> bool
+    fn pred_is_known(
+        &self,
+        place: usize,
+        object: ObjRef<'_>,
+        slot: SlotRef<'_>,
+        pred: &OpId,
+    ) -> bool
         ensures { result ≡ told self.now.reached self.now.index.now.facts self.now.change.now place pred.now (gives_to (object_of object.entry) (slot_shown slot.entry)) }
     {
         gives_to(self.ancestor(pred), object, slot) || gives_to(self.own(pred, place), object, slot)

@@ -203,11 +203,13 @@ impl Table {
         ensures err { OnErr result (facts_in self.new ≡ facts_in self.old) }
     {
         let count = self.kept.len();
-        let added = self.add_each(alloc, change);
-        if added.is_err() {
-            self.kept.truncate(count);
+        match self.add_each(alloc, change) {
+            Ok(()) => Ok(()),
+            Err(error) => {
+                self.kept.truncate(count);
+                Err(error)
+            }
         }
-        added
     }
 
     /// Adds the operations of the change; without memory only some of them.

@@ -49,32 +49,32 @@ there_put : (actor : List ℕ) (known : List (List ℕ)) → IsThere (put_actor 
 there_put actor [] = inl refl
 there_put actor (first ∷ rest) =
     elim (bytes_cmp actor first) as (λ r. bytes_cmp actor first ≡ r → IsThere (put_by r actor first rest (put_actor actor rest)) actor) [
-      Less ↦ λ e. inl refl
-    | Equal ↦ λ e. inl (exact_bytes actor first e)
-    | Greater ↦ λ e. inr (there_put actor rest)
+      | Less ↦ λ e. inl refl
+      | Equal ↦ λ e. inl (exact_bytes actor first e)
+      | Greater ↦ λ e. inr (there_put actor rest)
     ] refl
 
 keeps_put : (actor a : List ℕ) (known : List (List ℕ)) → IsThere known a → IsThere (put_actor actor known) a
 keeps_put actor a [] h = absurd h
 keeps_put actor a (first ∷ rest) h =
     elim (bytes_cmp actor first) as (λ r. IsThere (put_by r actor first rest (put_actor actor rest)) a) [
-      Less ↦ inr h
-    | Equal ↦ h
-    | Greater ↦ ⊎_elim (λ e. inl e) (λ m. inr (keeps_put actor a rest m)) h
+      | Less ↦ inr h
+      | Equal ↦ h
+      | Greater ↦ ⊎_elim (λ e. inl e) (λ m. inr (keeps_put actor a rest m)) h
     ]
 
 other_there : (author actor : List ℕ) (known : List (List ℕ)) → (actor ≡ author) ⊎ IsThere (put_other author actor known) actor
 other_there author actor known =
     elim (is_actor actor author) as (λ b. is_actor actor author ≡ b → (actor ≡ author) ⊎ IsThere (if b then known else put_actor actor known) actor) [
-      true ↦ λ t. inl (is_actor-same actor author t)
-    | false ↦ λ t. inr (there_put actor known)
+      | true ↦ λ t. inl (is_actor-same actor author t)
+      | false ↦ λ t. inr (there_put actor known)
     ] refl
 
 keeps_other : (author actor a : List ℕ) (known : List (List ℕ)) → IsThere known a → IsThere (put_other author actor known) a
 keeps_other author actor a known h =
     elim (is_actor actor author) as (λ b. IsThere (if b then known else put_actor actor known) a) [
-      true ↦ h
-    | false ↦ keeps_put actor a known h
+      | true ↦ h
+      | false ↦ keeps_put actor a known h
     ]
 
 keeps_others : (author : List ℕ) (xs known : List (List ℕ)) (a : List ℕ) → IsThere known a → IsThere (put_others author xs known) a
@@ -93,16 +93,16 @@ length-put_actor : (actor : List ℕ) (known : List (List ℕ)) → length (put_
 length-put_actor actor [] = omega arith
 length-put_actor actor (first ∷ rest) =
     elim (bytes_cmp actor first) as (λ r. length (put_by r actor first rest (put_actor actor rest)) ≤ suc (length (first ∷ rest))) [
-      Less ↦ omega arith
-    | Equal ↦ omega arith
-    | Greater ↦ let more = length-put_actor actor rest in omega arith
+      | Less ↦ omega arith
+      | Equal ↦ omega arith
+      | Greater ↦ let more = length-put_actor actor rest in omega arith
     ]
 
 length-put_other : (author actor : List ℕ) (known : List (List ℕ)) → length (put_other author actor known) ≤ suc (length known)
 length-put_other author actor known =
     elim (is_actor actor author) as (λ b. length (if b then known else put_actor actor known) ≤ suc (length known)) [
-      true ↦ omega arith
-    | false ↦ length-put_actor actor known
+      | true ↦ omega arith
+      | false ↦ length-put_actor actor known
     ]
 
 length-put_others : (author : List ℕ) (xs known : List (List ℕ)) → length (put_others author xs known) ≤ length xs + length known
@@ -142,16 +142,16 @@ pub found : (xs : List (List ℕ)) (a : List ℕ) → IsThere xs a → slice_get
 found [] a h = absurd h
 found (x ∷ xs) a h =
     elim (is_actor a x) as (λ b. is_actor a x ≡ b → slice_get (x ∷ xs) (if b then 0 else suc (place_of xs a)) ≡ Some a) [
-      true ↦ λ t. ap Some (sym (is_actor-same a x t))
-    | false ↦ λ t. found xs a (⊎_elim (λ e. absurd (let itself : is_actor a x ≡ true = ap (is_actor a) (sym e) ∙ is_actor-itself a in cc)) (λ m. m) h)
+      | true ↦ λ t. ap Some (sym (is_actor-same a x t))
+      | false ↦ λ t. found xs a (⊎_elim (λ e. absurd (let itself : is_actor a x ≡ true = ap (is_actor a) (sym e) ∙ is_actor-itself a in cc)) (λ m. m) h)
     ] refl
 
 pub place_of-le : (xs : List (List ℕ)) (a : List ℕ) → place_of xs a ≤ length xs
 place_of-le [] a = omega arith
 place_of-le (x ∷ xs) a =
     elim (is_actor a x) as (λ b. (if b then 0 else suc (place_of xs a)) ≤ suc (length xs)) [
-      true ↦ omega arith
-    | false ↦ let more = place_of-le xs a in omega arith
+      | true ↦ omega arith
+      | false ↦ let more = place_of-le xs a in omega arith
     ]
 
 -- the actor is null, or one of the actors
@@ -165,9 +165,10 @@ Covers actors o = (a : List ℕ) → IsThere (actors_of o) a → IsThere actors 
 
 covered : (actors : List (List ℕ)) (ops : List Op) → ((a : List ℕ) → IsThere (flat_map actors_of ops) a → IsThere actors a) → AllByRecursion (Covers actors) ops
 covered actors [] all = tt
-covered actors (o ∷ ops) all =
-    (λ a named. all a (there_left (actors_of o) (flat_map actors_of ops) a named),
-     covered actors ops (λ a named. all a (there_right (actors_of o) (flat_map actors_of ops) a named)))
+covered actors (o ∷ ops) all = (
+  λ a named. all a (there_left (actors_of o) (flat_map actors_of ops) a named),
+  covered actors ops (λ a named. all a (there_right (actors_of o) (flat_map actors_of ops) a named)),
+)
 
 pub all_covered : (author : List ℕ) (ops : List Op) → AllByRecursion (Covers (author ∷ others author ops)) ops
 all_covered author ops = covered (author ∷ others author ops) ops (λ a named. others_there author (flat_map actors_of ops) [] a named)

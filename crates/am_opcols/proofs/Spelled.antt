@@ -125,7 +125,7 @@ pub entries_within : (list : List (Option (List ℕ))) (n : ℕ) → length list
 entries_within list n few h =
     ⊎_elim (λ a. nulls_within n list a.1)
     (λ c. let P : List (Option (List ℕ)) → Type 0 = λ zs. AllByRecursion (IsWithin n) zs in
-        subst P (sym (c.1).4) (runs_within n (c.1).0 (let same = ap length (c.1).3 in omega arith)))
+    subst P (sym (c.1).4) (runs_within n (c.1).0 (let same = ap length (c.1).3 in omega arith)))
     (canonical_bytes-Canon whole list (all_items list) (omega arith))
 
 short_texts : (n : ℕ) (xs : List (Option (List ℕ))) → n < 2 ^ 64 → AllByRecursion (IsWithin n) (map (option_map text_spelling) xs) → AllByRecursion (λ x. IfSome x IsUtf8) xs → AllFit IsShortText xs

@@ -128,8 +128,8 @@ column_within [] s = omega arith
 column_within (c ∷ columns) s =
     let whole = length-append c.1 (body columns) in
     elim (c.0 == s) as (λ b. length (if b then c.1 else column_at columns s) ≤ length (body (c ∷ columns))) [
-      true ↦ omega arith
-    | false ↦ let more = column_within columns s in omega arith
+      | true ↦ omega arith
+      | false ↦ let more = column_within columns s in omega arith
     ]
 
 pub ascending : (actors : List (List ℕ)) (ops : List Op) → Ascend (listing (spellings actors (op_columns ops)))
@@ -158,21 +158,46 @@ columns_spelled author ops fine few few_preds short =
     let strings : AllFit IsShortText (map key_string ks) = texts_short (map key_string ks) (mapped (λ o. o.key) key_string ops (2 ^ 32) few_ops) (let l = column_within all 21 in omega arith) (key_strings_utf8 ops each) in
     let marks : AllFit IsShortText (map (λ o. o.mark) ops) = texts_short (map (λ o. o.mark) ops) (omega (arith, length-map ops (λ o. o.mark))) (let l = column_within all 165 in omega arith) (marks_utf8 ops each) in
     let A : List (Option (List ℕ)) → List ℕ → Type 0 = λ xs b. SpellsActors actors b xs in
-    let N : List (Option ℕ) → List ℕ → Type 0 = λ xs b. SpellsNumbers b xs in
-    (subst (A (map object_actor objects)) (at 1) (actors_spelled actors (map object_actor objects) some_actors (objects_known actors ops covers) (mapped (λ o. o.obj) object_actor ops (2 ^ 32) few_ops)),
-    (subst (N (map object_counter objects)) (at 2) (numbers_spelled (map object_counter objects) (object_counters_fit ops each) (mapped (λ o. o.obj) object_counter ops (2 ^ 32) few_ops)),
-    (subst (A (map key_actor ks)) (at 17) (actors_spelled actors (map key_actor ks) some_actors (keys_known actors ops covers) (mapped (λ o. o.key) key_actor ops (2 ^ 32) few_ops)),
-    (subst (λ b. SpellsDeltas b (map key_counter ks)) (at 19) (deltas_spelled (map key_counter ks) (keys_middling ops fine) (mapped (λ o. o.key) key_counter ops (2 ^ 32) few_ops)),
-    (subst (λ b. SpellsTexts b (map key_string ks)) (at 21) (texts_spelled (map key_string ks) strings (mapped (λ o. o.key) key_string ops (2 ^ 32) few_ops)),
-    (subst (λ b. SpellsFlags b (map (λ o. o.insert) ops)) (at 52) (flags_spelled (map (λ o. o.insert) ops) (omega (arith, length-map ops (λ o. o.insert)))),
-    (subst (N (map Some (map (λ o. o.action) ops))) (at 66) (numbers_spelled (map Some (map (λ o. o.action) ops)) (actions_fit ops each) (mapped (λ o. o.action) Some ops (2 ^ 32) few_ops)),
-    (subst (N (map Some (map metadata (map (λ o. o.value) ops)))) (at 86) (numbers_spelled (map Some (map metadata (map (λ o. o.value) ops))) (values_fit ops each) (mapped metadata Some (map (λ o. o.value) ops) (2 ^ 32) (omega (arith, length-map ops (λ o. o.value))))),
-    (sym (at 87),
-    (subst (N (map Some (map length (map (λ o. o.preds) ops)))) (at 112) (numbers_spelled (map Some (map length (map (λ o. o.preds) ops))) (counts_fit ops (2 ^ 22) few_preds (omega arith)) (mapped length Some (map (λ o. o.preds) ops) (2 ^ 32) (omega (arith, length-map ops (λ o. o.preds))))),
-    (subst (A (map id_actor preds)) (at 113) (actors_spelled actors (map id_actor preds) some_actors (preds_known actors ops covers) (omega (arith, length-map preds id_actor))),
-    (subst (λ b. SpellsDeltas b (map id_counter preds)) (at 115) (deltas_spelled (map id_counter preds) (preds_middling ops fine) (omega (arith, length-map preds id_counter))),
-    (subst (λ b. SpellsFlags b (map (λ o. o.expand) ops)) (at 148) (rare_flags_spelled (map (λ o. o.expand) ops) (omega (arith, length-map ops (λ o. o.expand)))),
-    (subst (λ b. SpellsTexts b (map (λ o. o.mark) ops)) (at 165) (texts_spelled (map (λ o. o.mark) ops) marks (omega (arith, length-map ops (λ o. o.mark)))), tt))))))))))))))
+    let N : List (Option ℕ) → List ℕ → Type 0 = λ xs b. SpellsNumbers b xs in (
+      subst (A (map object_actor objects)) (at 1) (actors_spelled actors (map object_actor objects) some_actors (objects_known actors ops covers) (mapped (λ o. o.obj) object_actor ops (2 ^ 32) few_ops)),
+      (
+        subst (N (map object_counter objects)) (at 2) (numbers_spelled (map object_counter objects) (object_counters_fit ops each) (mapped (λ o. o.obj) object_counter ops (2 ^ 32) few_ops)),
+        (
+          subst (A (map key_actor ks)) (at 17) (actors_spelled actors (map key_actor ks) some_actors (keys_known actors ops covers) (mapped (λ o. o.key) key_actor ops (2 ^ 32) few_ops)),
+          (
+            subst (λ b. SpellsDeltas b (map key_counter ks)) (at 19) (deltas_spelled (map key_counter ks) (keys_middling ops fine) (mapped (λ o. o.key) key_counter ops (2 ^ 32) few_ops)),
+            (
+              subst (λ b. SpellsTexts b (map key_string ks)) (at 21) (texts_spelled (map key_string ks) strings (mapped (λ o. o.key) key_string ops (2 ^ 32) few_ops)),
+              (
+                subst (λ b. SpellsFlags b (map (λ o. o.insert) ops)) (at 52) (flags_spelled (map (λ o. o.insert) ops) (omega (arith, length-map ops (λ o. o.insert)))),
+                (
+                  subst (N (map Some (map (λ o. o.action) ops))) (at 66) (numbers_spelled (map Some (map (λ o. o.action) ops)) (actions_fit ops each) (mapped (λ o. o.action) Some ops (2 ^ 32) few_ops)),
+                  (
+                    subst (N (map Some (map metadata (map (λ o. o.value) ops)))) (at 86) (numbers_spelled (map Some (map metadata (map (λ o. o.value) ops))) (values_fit ops each) (mapped metadata Some (map (λ o. o.value) ops) (2 ^ 32) (omega (arith, length-map ops (λ o. o.value))))),
+                    (
+                      sym (at 87),
+                      (
+                        subst (N (map Some (map length (map (λ o. o.preds) ops)))) (at 112) (numbers_spelled (map Some (map length (map (λ o. o.preds) ops))) (counts_fit ops (2 ^ 22) few_preds (omega arith)) (mapped length Some (map (λ o. o.preds) ops) (2 ^ 32) (omega (arith, length-map ops (λ o. o.preds))))),
+                        (
+                          subst (A (map id_actor preds)) (at 113) (actors_spelled actors (map id_actor preds) some_actors (preds_known actors ops covers) (omega (arith, length-map preds id_actor))),
+                          (
+                            subst (λ b. SpellsDeltas b (map id_counter preds)) (at 115) (deltas_spelled (map id_counter preds) (preds_middling ops fine) (omega (arith, length-map preds id_counter))),
+                            (
+                              subst (λ b. SpellsFlags b (map (λ o. o.expand) ops)) (at 148) (rare_flags_spelled (map (λ o. o.expand) ops) (omega (arith, length-map ops (λ o. o.expand)))),
+                              (subst (λ b. SpellsTexts b (map (λ o. o.mark) ops)) (at 165) (texts_spelled (map (λ o. o.mark) ops) marks (omega (arith, length-map ops (λ o. o.mark)))), tt),
+                            ),
+                          ),
+                        ),
+                      ),
+                    ),
+                  ),
+                ),
+              ),
+            ),
+          ),
+        ),
+      ),
+    )
 
 pub ops_spelled : (author : List ℕ) (ops : List Op) → All FineOp ops → length ops ≤ 2 ^ 22 → pred_count ops ≤ 2 ^ 22 → length (body (written_columns author ops)) < 2 ^ 64 → SpellsOps (author ∷ others author ops) (written_columns author ops) ops
 ops_spelled author ops fine few few_preds short = record { spelled = columns_spelled author ops fine few few_preds short; within = within ops fine few few_preds }

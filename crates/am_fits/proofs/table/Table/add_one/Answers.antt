@@ -1,7 +1,5 @@
-use Rattle.std.proofs.Common.{◌≡◌, ◌∙◌, ◌++◌, ◌∷◌, [], List, ap, sym, subst, map}
-use Rattle.am_fits.specs.declared.table.IdKey.{IdKey}
-use Rattle.am_fits.specs.declared.table.Kept.{Kept}
-use Rattle.am_fits.specs.Words.{words_of, Words, AreKept, IsFactOf, entry_in, id_in}
+use Rattle.std.proofs.Common.{◌≡◌, ◌∙◌, ◌++◌, ◌∷◌, [], ap, sym, subst, map}
+use Rattle.am_fits.specs.Words.{words_of, AreKept, entry_in, id_in}
 use Rattle.am_fits.specs.Facts.{fact_of}
 use Rattle.am_fits.proofs.Interned.{are_kept_stay, entries_same}
 use Rattle.am_fits.proofs.Entering.{entered, entered_kept, key_last, on_err}

@@ -1,9 +1,7 @@
 use Rattle.std.proofs.Common.{◌≡◌, sym, subst, map}
 use Rattle.std.proofs.lemmas.List.Elements.{same_from_all_zip}
 use Rattle.am_graph.proofs.Clocking.{names_cloned}
-use Rattle.am_fits.specs.declared.table.IdKey.{IdKey}
-use Rattle.am_fits.specs.declared.table.Kept.{Kept}
-use Rattle.am_fits.specs.Words.{words_of, Words, AreKept, entry_in}
+use Rattle.am_fits.specs.Words.{words_of, AreKept, entry_in}
 use Rattle.am_fits.proofs.table.Table.copy.Goals as goal
 
 words : (c : goal.In_ok-kept) → words_of (record { authors = c.in_ok-authors.authors; names = c.in_ok-names.names }) ≡ words_of c.args.self.now.texts

@@ -1,4 +1,4 @@
-use Rattle.std.proofs.Common.{◌≡◌, ◌∙◌, Some, option_map, ap, sym, refl}
+use Rattle.std.proofs.Common.{◌∙◌, Some, option_map, ap, sym, refl}
 use Rattle.am_fits.specs.declared.table.IdKey.{IdKey}
 use Rattle.am_types.specs.Views.{id_of}
 use Rattle.am_graph.proofs.Naming.{number_map}

@@ -1,0 +1,34 @@
+-- For tests: what the checks of operations tell.
+use Rattle.std.proofs.Common.{ℕ, ◌≡◌, ◌<◌, List, [], ◌∷◌, length, map, Option, Some, None, true, ap, ◌∙◌, subst, All, Contains, sym}
+use Rattle.std.specs.Bool.{⊤}
+use Rattle.std.specs.List.{AllByRecursion}
+use Rattle.std.specs.declared.cmp.Ordering.TheVariants.{Less}
+use Rattle.std.proofs.lemmas.List.Elements.{All-contains, All-map}
+use Rattle.am_types.specs.declared.OpId.{OpId}
+use Rattle.am_types.specs.declared.Key.TheVariants.{Elem}
+use Rattle.am_types.specs.Operations.{Operation}
+use Rattle.am_types.specs.Order.{id_cmp, Ascends}
+use Rattle.am_replay.specs.declared.numbered.Numbered.{Numbered}
+use Rattle.am_replay.specs.Numbered.{operation_of, ids_of}
+use Rattle.am_replay.specs.Rising.{Rise, IsBelow}
+use Rattle.am_replay.specs.Sound.{AreElementsKnown, HaveDistinctPreds, IsElementOf}
+use Rattle.am_replay.specs.States.{AreDistinct}
+use Rattle.am_replay.proofs.Validity.{all_less, ascends_tail}
+
+below_from : (x : Operation) (ns : List Numbered) → AllByRecursion (λ q. id_cmp x.id q ≡ Less) (ids_of ns) → IsBelow x (map operation_of ns)
+below_from x [] b = tt
+below_from x (n ∷ ns) b = (b.0, below_from x ns b.1)
+
+pub rise_from_ids : (ns : List Numbered) → Ascends id_cmp (ids_of ns) → Rise (map operation_of ns)
+rise_from_ids [] a = tt
+rise_from_ids (n ∷ ns) a = (below_from (operation_of n) ns (all_less (operation_of n).id (ids_of ns) a), rise_from_ids ns (ascends_tail (operation_of n).id (ids_of ns) a))
+
+pub distinct_from : (ns : List Numbered) → All (λ n. AreDistinct (operation_of n).op.preds) ns → HaveDistinctPreds (map operation_of ns)
+distinct_from ns all x c = All-contains (λ (x : Operation). AreDistinct x.op.preds) (map operation_of ns) x (All-map (λ (x : Operation). AreDistinct x.op.preds) operation_of ns all) c
+
+-- what x names as an element is one
+abbrev pub KnowsElement : List Operation → Operation → Type 0
+KnowsElement A x = (r : OpId) → x.op.key ≡ Elem r → IsElementOf A x.op.obj r
+
+pub known_from : (A : List Operation) (ns : List Numbered) → All (λ n. KnowsElement A (operation_of n)) ns → (x : Operation) → Contains (map operation_of ns) x → KnowsElement A x
+known_from A ns all x c = All-contains (KnowsElement A) (map operation_of ns) x (All-map (KnowsElement A) operation_of ns all) c

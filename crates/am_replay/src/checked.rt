@@ -1,0 +1,143 @@
+//! For tests: what a valid set gives is tested instead, and then the operations are read.
+ghost use Rattle.std.specs.Prelude.{◌≡◌, ◌≤◌, ◌^◌, true, All, length, map, IfOk, IfSome};
+ghost use Rattle.am_types.specs.Operations.{all_operations};
+ghost use Rattle.am_types.specs.Order.{Ascends, id_cmp};
+ghost use Rattle.am_types.specs.Replay.{replay};
+ghost use Rattle.am_types.specs.declared.Key.TheVariants.{Elem};
+ghost use Rattle.am_types.specs.declared.OpId.{OpId};
+ghost use Rattle.am_replay.specs.Line.{AreAnchored, IsAnchoredIn};
+ghost use Rattle.am_replay.specs.Numbered.{operation_of};
+ghost use Rattle.am_replay.specs.Rising.{Rise};
+ghost use Rattle.am_replay.specs.Sound.{AreElementsKnown, HasRoom, HaveDistinctPreds, IsElementOf, Sound};
+
+use crate::line::insertions;
+use crate::numbered::{Numbered, find, gather, sort_operations};
+use crate::placed::{compare_objects, read};
+use am_types::{Change, Document, Key, OpId, compare_ids};
+use std::alloc::{AllocError, Global};
+
+fn has_room(change: &Change) -> bool
+    ensures { result ≡ true → HasRoom change.now }
+{
+    change.start < 1 << 53 && change.ops.len() < 1 << 53
+}
+
+fn have_room(changes: &[Change]) -> bool
+    ensures { result ≡ true → All HasRoom changes.now }
+{
+    for change in changes {
+        if !has_room(change) {
+            return false;
+        }
+    }
+    true
+}
+
+fn ascend(ids: &[OpId]) -> bool
+    ensures { result ≡ true → Ascends id_cmp ids.now }
+{
+    for i in 1..ids.len() {
+        if !compare_ids(ids[i - 1].lend(), ids[i].lend()).is_lt() {
+            return false;
+        }
+    }
+    true
+}
+
+fn rise(alloc: Global, operations: &[Numbered<'_>]) -> Result<bool, AllocError>
+    ensures { IfOk result (λ b. b ≡ true → Rise (map operation_of operations.now)) }
+{
+    let mut ids = Vec::new(alloc);
+    for x in operations {
+        ids.push(x.own_id(alloc)?)?;
+    }
+    Ok(ascend(ids.as_slice()))
+}
+
+fn have_distinct_preds(operations: &[Numbered<'_>]) -> bool
+    ensures { result ≡ true → HaveDistinctPreds (map operation_of operations.now) }
+{
+    for x in operations {
+        if !ascend(x.op.preds.as_slice()) {
+            return false;
+        }
+    }
+    true
+}
+
+fn knows_element(operations: &[Numbered<'_>], x: &Numbered<'_>) -> bool
+    requires { Rise (map operation_of operations.now) }
+    ensures { result ≡ true → (r : OpId) → (operation_of x.now).op.key ≡ Elem r → IsElementOf (map operation_of operations.now) (operation_of x.now).op.obj r }
+{
+    match &x.op.key {
+        Key::Elem(id) => match find(operations, id.lend()) {
+            Some(at) => {
+                let y = operations[at];
+                y.op.insert && compare_objects(&y.op.obj, &x.op.obj).is_eq()
+            }
+            None => false,
+        },
+        _ => true,
+    }
+}
+
+fn know_elements(operations: &[Numbered<'_>]) -> bool
+    requires { Rise (map operation_of operations.now) }
+    ensures { result ≡ true → AreElementsKnown (map operation_of operations.now) }
+{
+    for x in operations {
+        if !knows_element(operations, x) {
+            return false;
+        }
+    }
+    true
+}
+
+fn is_anchored(before: &[Numbered<'_>], x: &Numbered<'_>) -> bool
+    requires { Rise (map operation_of before.now) }
+    ensures { result ≡ true → IsAnchoredIn (map operation_of before.now) (operation_of x.now).op.key }
+{
+    match &x.op.key {
+        Key::Head => true,
+        Key::Name(_) => false,
+        Key::Elem(id) => find(before, id.lend()).is_some(),
+    }
+}
+
+fn are_anchored(elements: &[Numbered<'_>]) -> bool
+    requires { Rise (map operation_of elements.now) }
+    ensures { result ≡ true → AreAnchored (map operation_of elements.now) }
+{
+    for i in 0..elements.len() {
+        if !is_anchored(&elements[..i], &elements[i]) {
+            return false;
+        }
+    }
+    true
+}
+
+fn is_sound(alloc: Global, operations: &[Numbered<'_>]) -> Result<bool, AllocError>
+    ensures { IfOk result (λ b. b ≡ true → Sound (map operation_of operations.now)) }
+{
+    if operations.len() > 1 << 22 || !rise(alloc, operations)? {
+        return Ok(false);
+    }
+    let elements = insertions(alloc, operations)?;
+    Ok(have_distinct_preds(operations) && know_elements(operations) && are_anchored(elements.as_slice()))
+}
+
+/// What replay gives of the changes, unless it is found that they are no valid set.
+pub fn replay_checked(alloc: Global, changes: &[Change]) -> Result<Option<Document>, AllocError>
+    ensures { IfOk result (λ read. IfSome read (λ document. document.entries ≡ replay (all_operations changes.now))) }
+{
+    if !have_room(changes) {
+        return Ok(None);
+    }
+    let mut operations = gather(alloc, changes)?;
+    sort_operations(&mut operations)?;
+    if !is_sound(alloc, operations.as_slice())? {
+        return Ok(None);
+    }
+    let document = read(alloc, operations.as_slice())?;
+    Ok(Some(document))
+}
