@@ -6,9 +6,12 @@ mod index;
 mod known;
 mod seen;
 mod table;
+#[cfg(test)]
+mod tests;
 mod texts;
 mod totals;
 
 pub use am_types::{Limit, Verdict};
 pub use fit::fits;
 pub use index::OpIndex;
+pub use totals::Totals;
