@@ -11,4 +11,3 @@ pub mod Outcomes
 pub mod Fresh
 pub mod Adding
 pub mod Firsts
-pub mod TestSets

@@ -4,4 +4,3 @@ pub mod Indexes
 pub mod Words
 pub mod Told
 pub mod Shown
-pub mod Samples

@@ -6,8 +6,6 @@ mod index;
 mod known;
 mod seen;
 mod table;
-#[cfg(test)]
-mod tests;
 mod texts;
 mod totals;
 
