@@ -140,4 +140,7 @@ pub ascend : (hs : List Hash) → IsStrictlySortedBy hash_cmp hs → Ascends has
 ascend [] s k d l = absurd (omega arith)
 ascend (x ∷ []) s k d l = absurd (omega arith)
 ascend (x ∷ y ∷ hs) s zero d l = (sorted_head hash_cmp x (y ∷ hs) s).0
-ascend (x ∷ y ∷ hs) s (suc k) d l = ascend (y ∷ hs) (sorted_tail hash_cmp x (y ∷ hs) s) k d (omega arith)
+ascend (x ∷ y ∷ hs) s (suc k) d l =
+    let again : hash_cmp (get_or (y ∷ hs) k d) (get_or (y ∷ hs) (k + 1) d) ≡ Less = ascend (y ∷ hs) (sorted_tail hash_cmp x (y ∷ hs) s) k d (omega arith) in
+    let next : suc (k + 1) ≡ suc k + 1 = omega arith in
+    subst (λ n. hash_cmp (get_or (y ∷ hs) k d) (get_or (x ∷ y ∷ hs) n d) ≡ Less) next again

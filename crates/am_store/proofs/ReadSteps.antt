@@ -15,6 +15,10 @@ use Rattle.am_frame.specs.Frames.{Chunk, IsChunk, chunk_of, chunk_bytes}
 use Rattle.am_change.specs.Contents.{contents}
 use Rattle.am_delivery.specs.Waiting.{member_of, members_of}
 use Rattle.am_store.specs.declared.fault.LoadFault.{LoadFault}
+use Rattle.am_store.specs.declared.fault.LoadError.{LoadError}
+use Rattle.am_store.specs.declared.fault.ReadFault.{ReadFault}
+use Rattle.am_store.specs.declared.fault.ReadFault.TheVariants as read_fault
+use Rattle.am_store.specs.Whole.{MatchLoad}
 use Rattle.am_store.specs.Kept.{own_hash, with_hash, with_hashes}
 use Rattle.am_store.specs.Files.{Holds, HasFault, FirstBad}
 use Rattle.am_store.specs.Reading.{HasRead, changes_of}
@@ -72,3 +76,7 @@ first_bad only bytes rest pairs k fault r more bad e = record {
 
 pub all_read : (bytes rest : List ℕ) (pairs : List (Hash × Change)) → rest ≡ [] → HasRead bytes rest pairs → HasRead bytes [] pairs
 all_read bytes rest pairs e r = subst (λ b. HasRead bytes b pairs) e r
+
+pub match_weaker : (fault : ReadFault) (P Q : LoadError → Type 0) → ((e : LoadError) → P e → Q e) → MatchLoad fault P → MatchLoad fault Q
+match_weaker (read_fault.Load e) P Q f p = f e p
+match_weaker read_fault.NoMemory P Q f p = tt

@@ -1,13 +1,23 @@
 //! The changes of a file.
-ghost use Rattle.std.specs.Prelude.{Bool, IfOk, IfErr, [], vec_items};
-ghost use Rattle.am_store.specs.Files.{FirstBad};
-ghost use Rattle.am_store.specs.Reading.{HasRead};
+ghost use Rattle.std.specs.Prelude.{◌≡◌, ℕ, Bool, List, IfOk, IfErr, [], vec_items};
+ghost use Rattle.am_store.specs.Files.{HasFault, FirstBad};
+ghost use Rattle.am_store.specs.Reading.{HasRead, MatchBad};
 ghost use Rattle.am_store.specs.Whole.{MatchLoad};
 
 use crate::chunk::{ChunkFault, first_change};
 use crate::fault::{LoadError, ReadFault};
 use am_types::{Change, Hash};
 use std::alloc::Global;
+
+/// Why a file isn't read where this is wrong with the chunk of this number.
+fn refused(chunk: u64, fault: ChunkFault) -> ReadFault
+    ensures { (only : Bool) (bytes : List ℕ) → MatchBad fault (HasFault only bytes) → MatchLoad result (λ e. (e.chunk ≡ chunk) × HasFault only bytes e.fault) }
+{
+    match fault {
+        ChunkFault::Bad(fault) => ReadFault::Load(LoadError { chunk, fault }),
+        ChunkFault::NoMemory => ReadFault::NoMemory,
+    }
+}
 
 /// The changes of a file, each beside its hash.
 pub fn changes_in(alloc: Global, bytes: &[u8]) -> Result<Vec<(Hash, Change)>, ReadFault>
@@ -19,11 +29,7 @@ pub fn changes_in(alloc: Global, bytes: &[u8]) -> Result<Vec<(Hash, Change)>, Re
     'chunks: while !rest.is_empty() {
         let first = match first_change(alloc, rest) {
             Ok(first) => first,
-            Err(ChunkFault::Bad(fault)) => {
-                let chunk = pairs.len() as u64 + 1;
-                return Err(ReadFault::Load(LoadError { chunk, fault }));
-            }
-            Err(ChunkFault::NoMemory) => return Err(ReadFault::NoMemory),
+            Err(fault) => return Err(refused(pairs.len() as u64 + 1, fault)),
         };
         if pairs.push((first.hash, first.change)).is_err() {
             return Err(ReadFault::NoMemory);

@@ -119,7 +119,9 @@ impl Store {
             waiting: waiting.len() as u64,
             rejected,
         };
-        self.closed.append(&mut fresh)?;
+        if self.closed.append(&mut fresh).is_err() {
+            return Err(AllocError);
+        }
         self.waiting = waiting;
         self.graph = graph;
         self.index = index;

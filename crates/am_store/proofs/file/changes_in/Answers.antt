@@ -1,9 +1,7 @@
-use Rattle.std.proofs.Common.{rules, ◌≡◌, ◌<◌, ◌+◌, ◌++◌, ◌∷◌, [], length, vec_items, sym, subst}
-use Rattle.am_store.specs.declared.chunk.ChunkFault.TheVariants.{Bad}
+use Rattle.std.proofs.Common.{rules, ◌≡◌, ◌<◌, ◌+◌, ◌++◌, ◌∷◌, [], length, vec_items, sym, subst, ◌∙◌}
 use Rattle.std.proofs.lemmas.List.{nil_from_length}
-use Rattle.am_store.specs.Files.{HasFault}
-use Rattle.am_store.specs.Reading.{HasRead, MatchBad}
-use Rattle.am_store.proofs.ReadSteps.{nothing_read, read_more, first_bad, all_read}
+use Rattle.am_store.specs.Reading.{HasRead}
+use Rattle.am_store.proofs.ReadSteps.{match_weaker, nothing_read, read_more, first_bad, all_read}
 use Rattle.am_store.proofs.file.changes_in.Goals as goal
 
 pub chunks-init : goal.chunks-init
@@ -15,10 +13,11 @@ chunks-preserved c =
     subst (HasRead c.args.bytes.now first.rest.now) (search rules)
     (read_more c.args.bytes.now c.chunks.rest.now first.rest.now (vec_items c.chunks.pairs) first.hash first.change c.chunks.invariant c.in-Ok.ensures.chunk c.in-Ok.ensures.is_chunk c.in-Ok.ensures.fine c.in-Ok.ensures.own_hash c.in-Ok.ensures.is_hash)
 
-pub returns-in-Err-Bad-clause-load : goal.returns-in-Err-Bad-clause-load
-returns-in-Err-Bad-clause-load c = λ only.
-    let same : c.in-Err-Bad.field-0 ≡ Bad c.in-Err-Bad.fault = search rules in
-    first_bad only c.args.bytes.now c.chunks.rest.now (vec_items c.chunks.pairs) _ c.in-Err-Bad.fault c.chunks.invariant (search rules) (subst (λ x. MatchBad x (HasFault only c.chunks.rest.now)) same (c.in-Err-Bad.ensures.bad only)) (search rules)
+pub returns-in-Err-clause-load : goal.returns-in-Err-clause-load
+returns-in-Err-clause-load c = λ only.
+    match_weaker c.refused.result _ _
+    (λ e h. first_bad only c.args.bytes.now c.chunks.rest.now (vec_items c.chunks.pairs) e.chunk e.fault c.chunks.invariant (search rules) h.1 (h.0 ∙ (search rules)))
+    (c.refused.ensures only c.chunks.rest.now (c.in-Err.ensures.bad only))
 
 pub returns-clause-ok : goal.returns-clause-ok
 returns-clause-ok c = all_read c.args.bytes.now c.chunks.rest.now (vec_items c.chunks.pairs) (nil_from_length c.chunks.rest.now (search rules)) c.chunks.invariant

@@ -3,8 +3,5 @@ use Rattle.am_types.specs.declared.Hash.{Hash}
 use Rattle.am_store.proofs.Hashes.{set_more}
 use Rattle.am_store.proofs.lists.set_of.Goals as goal
 
-none : Hash
-none = record { 0 = [] }
-
 pub loop-hash-preserved : goal.loop-hash-preserved
-loop-hash-preserved c = set_more c.loop-hash.set c.insert.new.self c.args.hashes.now c.loop-hash.hash-index none c.loop-hash-test.true c.in_ok-insert.ensures.updates c.loop-hash.invariant
+loop-hash-preserved c = set_more c.loop-hash.set c.insert.new.self c.args.hashes.now c.loop-hash.hash-index (record { 0 = [] }) c.loop-hash-test.true c.in_ok-insert.ensures.updates c.loop-hash.invariant
