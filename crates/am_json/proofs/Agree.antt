@@ -1,9 +1,9 @@
 -- Texts that nest less deep than the levels told are told whole.
-use Rattle.std.proofs.Common.{◌≡◌, ℕ, zero, suc, ◌+◌, ◌<◌, ◌≤◌, max, Bool, true, false, cond, List, [], ◌∷◌, map, filter, Option, Some, None, Ordering, Less, Equal, Greater, refl, sym, ap, ◌∙◌, arith, subst}
+use Rattle.std.proofs.Common.{◌≡◌, ℕ, zero, suc, ◌<◌, ◌≤◌, max, Bool, true, false, cond, List, [], ◌∷◌, map, filter, Ordering, Less, Equal, Greater, refl, sym, ap, arith, subst}
 use Rattle.std.specs.Prelude.{fold, flat_map}
 use Rattle.std.specs.Ordering.{nat_cmp, match_ordering}
 use Rattle.std.specs.Cmp.Lexicographic.{slice_cmp}
-use Rattle.serde_json.specs.Data.{Data, null, string, array, object, put, Items, item, no_items, Members, member, no_members, depth, items_depth, members_depth}
+use Rattle.serde_json.specs.Data.{Data, string, array, object, put, Items, item, Members, member, no_members, depth, items_depth, members_depth}
 use Rattle.serde_json.specs.View.{items_of}
 use Rattle.am_types.specs.declared.ObjId.{ObjId}
 use Rattle.am_types.specs.declared.ObjId.TheVariants.{Made}
@@ -12,7 +12,7 @@ use Rattle.am_json.specs.declared.form.Form.{Form}
 use Rattle.am_json.specs.declared.form.Form.TheVariants as forms
 use Rattle.am_json.specs.Entries.{Slot, slots, is_in}
 use Rattle.am_types.specs.Actions.{is_make}
-use Rattle.am_json.specs.Shown.{object_within, object_of, shown_by, scalar, slot_data, pair, piece, with_slot, name_of, is_string, is_array, id_text}
+use Rattle.am_json.specs.Shown.{object_within, object_of, shown_by, scalar, slot_data, pair, piece, with_slot, name_of, is_string, is_array}
 
 -- the same, if one of them nests less than n deep
 pub record Same (n : ℕ) (a b : Data) : Type 0 where

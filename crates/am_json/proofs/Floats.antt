@@ -1,9 +1,9 @@
 -- No entry shows a float.
-use Rattle.std.proofs.Common.{◌≡◌, ℕ, zero, suc, ◌==◌, Bool, true, false, ℤ, pos, negsuc, List, [], ◌∷◌, map, filter, Option, Some, None, cond, Ordering, Less, Equal, Greater, refl, rules, ◌||◌, true≢false}
+use Rattle.std.proofs.Common.{◌≡◌, ℕ, zero, suc, Bool, true, false, ℤ, pos, negsuc, List, [], ◌∷◌, map, filter, Option, Some, None, cond, Ordering, Less, Equal, Greater, refl, ◌||◌, true≢false}
 use Rattle.std.specs.Prelude.{fold, flat_map}
 use Rattle.std.specs.Ordering.{nat_cmp, match_ordering}
 use Rattle.std.specs.Cmp.Lexicographic.{slice_cmp}
-use Rattle.serde_json.specs.Data.{Data, null, number, string, array, object, put, Members, member, no_members, Items, item, no_items}
+use Rattle.serde_json.specs.Data.{Data, null, number, string, array, object, put, Members, member, no_members}
 use Rattle.serde_json.specs.Find.{of_integer}
 use Rattle.serde_json.specs.View.{items_of}
 use Rattle.serde_json.specs.Written.{has_float, items_have_float, members_have_float}
@@ -14,7 +14,7 @@ use Rattle.am_json.specs.declared.form.Form.{Form}
 use Rattle.am_json.specs.declared.form.Form.TheVariants as forms
 use Rattle.am_json.specs.Entries.{Slot, slots, is_in}
 use Rattle.am_types.specs.Actions.{is_make}
-use Rattle.am_json.specs.Shown.{piece, scalar, counter_data, number_data, text_data, fits_i64, object_of, shown_by, object_within, name_of, slot_data, pair, with_slot, is_string, is_array, tagged}
+use Rattle.am_json.specs.Shown.{piece, scalar, number_data, text_data, object_of, shown_by, object_within, name_of, slot_data, pair, with_slot, is_string, is_array}
 
 record NoFloat (d : Data) : Type 0 where
   pub none : has_float d ≡ false

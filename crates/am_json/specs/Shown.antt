@@ -1,10 +1,16 @@
--- The JSON that entries of a document show (RFC 8259). Which values, tags and forms are shown, and how, are choices of
--- amstore's profile.
---     scalar e              what a value shows that makes no object
---     shown_by inside e     what the entry e shows, where `inside` is what an object shows
---     slot_data form f s    what the slot s shows: its winner, or the pairs ["ID",VALUE] of all its entries
---     object_of form a f ss what an object shows that the action a made, of its slots ss
---     json_data form es     what the entries es show, from the root
+-- The JSON that entries of a document show (RFC 8259, "objects", "arrays", "strings"). Which entries, tags and numbers
+-- are shown, and how, are choices of amstore's profile.
+--     number_data n, text_data t    the number, the text of a value
+--     counter_data z                the total z of a counter
+--     tagged tag d                  d under a name that says how to read it
+--     scalar e                      what the value of e shows
+--     shown_by inside e             what the entry e shows, where `inside` is what an object shows
+--     id_text i                     the id i, COUNTER@ACTOR
+--     slot_data form f s            what the slot s shows: its winner, or the pairs ["ID",VALUE] of all its entries
+--     piece e                       what an element adds to the string of a text
+--     object_of form a f ss         what an object shows that the action a made, of its slots ss
+--     data_within form n es         what the entries es show, with null for what stands inside n objects
+--     json_data form es             what the entries es show
 use Rattle.std.specs.Prelude.{ℕ, zero, suc, ◌==◌, ◌&&◌, ◌||◌, Bool, true, false, ℤ, pos, negsuc, int_le, nat_lt, ◌^◌, ◌-◌, List, [], ◌∷◌, ◌++◌, length, map, filter, Option, Some, None, if◌then◌else◌, codes, flat_map, fold, decimal, unwrap_or}
 use Rattle.std.specs.Str.{is_utf8}
 use Rattle.std.specs.Fmt.{signed_decimal}
@@ -48,6 +54,7 @@ counter_data z = if fits_i64 z then number (of_integer z) else tagged (codes "$c
 abbrev pub is_text : RawValue → Bool
 is_text v = v.kind == 6 && nat_lt (length v.raw) (2 ^ 60) && is_utf8 v.raw
 
+-- the text of a good value of its kind
 abbrev pub text_of : RawValue → Option (List ℕ)
 text_of v = if is_text v then Some v.raw else None
 
@@ -56,6 +63,7 @@ abbrev pub text_data : Option (List ℕ) → Data
 text_data None = null
 text_data (Some text) = string text
 
+-- what a value shows; the last case is for kinds without meaning here
 abbrev pub scalar : Entry → Data
 scalar e =
     let k = e.value.kind in
@@ -72,6 +80,7 @@ scalar e =
     else (if k == 9 then tagged (codes "$time") (number_data (number_of e.value))
     else object (member (codes "$kind") (number (unsigned k)) (member (codes "$raw") hex no_members)))))))))))
 
+-- an entry of a make shows the object that it made
 abbrev pub shown_by : (Entry → Data) → Entry → Data
 shown_by inside e = if actions.is_make e.action then inside e else scalar e
 
@@ -85,6 +94,7 @@ id_text id = decimal id.counter ++ 64 ∷ encode_lower id.actor
 abbrev pub pair : (Entry → Data) → Entry → Data
 pair f e = array (item (string (id_text e.id)) (item (f e) no_items))
 
+-- the winner alone, or all entries with their ids
 abbrev pub slot_data : Form → (Entry → Data) → Slot → Data
 slot_data forms.Winners f s = f s.winner
 slot_data forms.All f s = array (items_of (map (pair f) s.entries))
@@ -105,14 +115,14 @@ name_of (Name name) = name
 name_of Head = []
 name_of (Elem e) = []
 
--- what an element adds to a string: its text, or U+FFFC for what is no text
+-- what an element adds to a string: its text, or U+FFFC (object replacement character) for what is no text
 abbrev pub piece : Entry → List ℕ
 piece e = if e.action == actions.set then unwrap_or (text_of e.value) (239 ∷ 191 ∷ 188 ∷ []) else 239 ∷ 191 ∷ 188 ∷ []
 
 abbrev pub with_slot : (Slot → Data) → Members → Slot → Members
 with_slot g ms s = put (name_of s.winner.slot) (g s) ms
 
--- maps and tables are objects, with their names in ascending order
+-- a string, an array, or an object with its names in ascending order
 abbrev pub object_of : Form → ℕ → (Entry → Data) → List Slot → Data
 object_of form action f ss =
     if is_string form action then string (flat_map (λ s. piece s.winner) ss)

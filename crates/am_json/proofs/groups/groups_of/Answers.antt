@@ -1,7 +1,7 @@
-use Rattle.std.proofs.Common.{◌≡◌, ◌≤◌, ◌+◌, ◌-◌, ◌∷◌, ◌++◌, [], List, true, false, map, drop, take, take_all, length, length-drop, arith, sym, ap, ◌∙◌, refl, append-nil}
+use Rattle.std.proofs.Common.{◌≡◌, ◌+◌, ◌-◌, ◌∷◌, ◌++◌, [], map, drop, take, take_all, length, length-drop, arith, sym, ap, ◌∙◌, append-nil}
 use Rattle.std.proofs.lemmas.List.{drop_more, drop_all, map-append}
-use Rattle.am_json.specs.Steps.{goes_on, runs, slot_of}
-use Rattle.am_json.proofs.Joined.{joined, joined-none, segment, turn_last, turn_more}
+use Rattle.am_json.specs.Steps.{goes_on, slot_of}
+use Rattle.am_json.proofs.Joined.{joined-none, segment, turn_last, turn_more}
 use Rattle.am_json.proofs.groups.groups_of.Goals as goal
 use Rattle.am_json.proofs.groups.groups_of.Goals.{then-not-is_followed+in_ok-push, else-not-is_followed}
 

@@ -1,9 +1,7 @@
-use Rattle.std.proofs.Common.{◌≡◌, List, filter, map, sym, ap, ◌∙◌, subst}
-use Rattle.std.specs.Prelude.{IfOk}
-use Rattle.am_types.specs.declared.Entry.{Entry}
+use Rattle.std.proofs.Common.{filter, ap, ◌∙◌}
 use Rattle.am_types.specs.Views.{object_of}
-use Rattle.am_json.specs.Entries.{is_in, slots}
-use Rattle.am_json.specs.Steps.{runs, slot_of}
+use Rattle.am_json.specs.Entries.{is_in}
+use Rattle.am_json.specs.Steps.{runs}
 use Rattle.am_json.proofs.Ordered.{by_slots}
 use Rattle.am_json.proofs.SlotRuns.{runs_are_slots}
 use Rattle.am_json.proofs.groups.slots_of.Goals as goal

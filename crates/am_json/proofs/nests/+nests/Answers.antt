@@ -1,4 +1,4 @@
-use Rattle.std.proofs.Common.{◌≤◌, ◌+◌, arith, ap, sym, true≢false}
+use Rattle.std.proofs.Common.{◌≤◌, arith, ap, sym, true≢false}
 use Rattle.serde_json.specs.Data.{depth, members_depth}
 use Rattle.serde_json.specs.View.{view, members_view}
 use Rattle.am_json.proofs.Depths.{next_item}

@@ -1,4 +1,4 @@
-use Rattle.std.proofs.Common.{◌≡◌, String, Global, string_bytes, List, ℕ, map, flat_map, take, take_all, rules, ap, ◌∙◌}
+use Rattle.std.proofs.Common.{◌≡◌, String, Global, string_bytes, map, flat_map, take, take_all, rules, ap, ◌∙◌}
 use Rattle.serde_json.specs.Data.{string}
 use Rattle.serde_json.specs.View.{view}
 use Rattle.serde_json.specs.declared.value.Value.{the_lemmas}
