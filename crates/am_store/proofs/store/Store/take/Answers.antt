@@ -20,6 +20,14 @@ returns-then-is_err-clause-err c =
     let items : c.append.new.self.items ≡ c.self.inside.closed.items = search rules in
     ap (λ es. kept_of es (waiting_of c.self.inside.waiting)) items ∙ c.self.view_is
 
+pub invariant_of-self : goal.invariant_of-self
+invariant_of-self c =
+    let items : c.append.new.self.items ≡ c.self.inside.closed.items = search rules in
+    record {
+      kept = subst (λ es. IsKept (kept_of es (waiting_of c.self.inside.waiting))) (sym items) c.self.invariant.kept;
+      of_set = subst (λ es. AreOf (members_of es) c.self.inside.graph c.self.inside.index) (sym items) c.self.invariant.of_set;
+    }
+
 pub invariant_of-self-2 : goal.invariant_of-self-2
 invariant_of-self-2 c =
     let old = c.self.inside.closed.items in
