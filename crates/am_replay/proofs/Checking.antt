@@ -1,6 +1,5 @@
 -- For tests: what the checks of operations tell.
-use Rattle.std.proofs.Common.{ℕ, ◌≡◌, ◌<◌, List, [], ◌∷◌, length, get_or, take, map, Option, Some, None, true, ap, ◌∙◌, subst, All, Contains, sym}
-use Rattle.std.specs.Bool.{⊤}
+use Rattle.std.proofs.Common.{ℕ, ◌≡◌, ◌<◌, List, [], ◌∷◌, length, get_or, take, map, ◌∙◌, subst, All, Contains, sym}
 use Rattle.std.specs.List.{AllByRecursion}
 use Rattle.std.specs.declared.cmp.Ordering.TheVariants.{Less}
 use Rattle.std.proofs.lemmas.List.{get_or_default, length-map, take-map}
@@ -13,7 +12,7 @@ use Rattle.am_replay.specs.declared.numbered.Numbered.{Numbered}
 use Rattle.am_replay.specs.Numbered.{operation_of, ids_of}
 use Rattle.am_replay.specs.Line.{IsAnchoredIn}
 use Rattle.am_replay.specs.Rising.{Rise, IsBelow}
-use Rattle.am_replay.specs.Sound.{AreElementsKnown, HaveDistinctPreds, IsElementOf}
+use Rattle.am_replay.specs.Sound.{HaveDistinctPreds, IsElementOf}
 use Rattle.am_replay.specs.States.{AreDistinct}
 use Rattle.am_replay.proofs.Found.{read_operation}
 use Rattle.am_replay.proofs.Validity.{all_less, ascends_tail}

@@ -1,12 +1,10 @@
 -- Finding an operation by its id.
-use Rattle.std.proofs.Common.{ℕ, zero, suc, ◌≡◌, ◌≢◌, ◌<◌, ◌≤◌, ◌+◌, List, [], ◌∷◌, length, get_or, map, Option, Some, None, option_map, true, false, refl, sym, ap, ◌∙◌, subst, Contains, inl, inr, arith}
-use Rattle.std.specs.Bool.{⊤}
+use Rattle.std.proofs.Common.{ℕ, zero, suc, ◌≡◌, ◌≢◌, ◌<◌, ◌+◌, List, [], ◌∷◌, length, get_or, map, Option, Some, None, true, false, refl, sym, ap, ◌∙◌, Contains, inl, inr, arith}
 use Rattle.std.proofs.lemmas.List.{length-map}
-use Rattle.std.specs.List.{AllByRecursion, All, AllWithin, HoldsAt, slice_get}
+use Rattle.std.specs.List.{AllByRecursion, HoldsAt}
 use Rattle.std.specs.List.Sorted.{IsSortedBy, IsPartitionPoint, IsNonDecreasingBy}
-use Rattle.std.specs.Option.{unwrap_or, is_some}
+use Rattle.std.specs.Option.{is_some}
 use Rattle.std.specs.Ordering.{is_lt, ordering_index, ordering_reverse}
-use Rattle.std.specs.declared.cmp.Ordering.{Ordering}
 use Rattle.std.specs.declared.cmp.Ordering.TheVariants.{Less, Equal, Greater}
 use Rattle.std.proofs.Math.ListN.{get_or-map}
 use Rattle.std.proofs.lemmas.Bool.{both_ways, cases_lt}
@@ -15,7 +13,7 @@ use Rattle.std.proofs.lemmas.List.Elements.{recursion_from_All, All-from_recursi
 use Rattle.std.proofs.lemmas.List.Sorted.{searchable_from_sorted}
 use Rattle.am_types.specs.declared.OpId.{OpId}
 use Rattle.am_types.specs.declared.Key.{Key}
-use Rattle.am_types.specs.declared.Key.TheVariants.{Head, Elem}
+use Rattle.am_types.specs.declared.Key.TheVariants.{Elem}
 use Rattle.am_types.specs.Order.{id_cmp}
 use Rattle.am_types.specs.Operations.{Operation}
 use Rattle.am_types.proofs.Lists.{Contains-head, Contains-tail}
@@ -63,7 +61,7 @@ sorted_from_rise ns rise k d low high =
     let b = get_or-map operation_of ns (k + 1) d in
     let same : length (map operation_of ns) ≡ length ns = length-map ns operation_of in
     let less : id_cmp (get_or (map operation_of ns) k (operation_of d)).id (get_or (map operation_of ns) (k + 1) (operation_of d)).id ≡ Less =
-        rise_at (map operation_of ns) rise k (k + 1) (operation_of d) (omega arith) (omega arith) in
+    rise_at (map operation_of ns) rise k (k + 1) (operation_of d) (omega arith) (omega arith) in
     less_not_back (operation_of (get_or ns k d)).id (operation_of (get_or ns (k + 1) d)).id (sym (λ t. id_cmp (a t).id (b t).id) ∙ less)
 
 pub none_found : (ns : List Numbered) (i : OpId) (at : ℕ) → Rise (map operation_of ns)
