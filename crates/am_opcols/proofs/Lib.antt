@@ -8,3 +8,4 @@ pub mod AboveLaws
 pub mod Named
 pub mod Spelled
 pub mod WrittenOps
+pub mod NamedAlone
