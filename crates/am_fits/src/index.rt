@@ -69,8 +69,8 @@ impl OpIndex {
         self.table.find(id)
     }
 
-    /// The totals of the changes.
-    pub(crate) fn totals(&self) -> Totals
+    /// How many changes were taken in, and how many operations, predecessors and dependencies they have in all.
+    pub fn totals(&self) -> Totals
         ensures { result ≡ self.now.totals }
     {
         self.totals

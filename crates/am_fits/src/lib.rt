@@ -12,3 +12,4 @@ mod totals;
 pub use am_types::{Limit, Verdict};
 pub use fit::fits;
 pub use index::OpIndex;
+pub use totals::Totals;

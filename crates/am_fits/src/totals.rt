@@ -6,23 +6,27 @@ ghost use Rattle.am_fits.specs.Sums.{totals_of, totals_with, limit_of, AreWithin
 use am_types::{Change, Limit, Op};
 
 /// The most changes that a set may have.
-const MOST_CHANGES: u64 = 1048576;
+const MOST_CHANGES: u64 = 1 << 20;
 
 /// The most operations that a set may have, and the most predecessors and dependencies.
-const MOST: u64 = 4194304;
+const MOST: u64 = 1 << 22;
 
-/// What a set has in all.
-#[derive(Clone, Copy, Debug)]
-pub(crate) struct Totals {
+/// What the changes of a set have in all.
+#[derive(Clone, Copy, Debug, PartialEq, Eq)]
+pub struct Totals {
+    /// How many changes there are.
     pub changes: u64,
+    /// How many operations they have.
     pub operations: u64,
+    /// How many predecessors the operations have.
     pub preds: u64,
+    /// How many dependencies the changes have.
     pub links: u64,
 }
 
 impl Totals {
     /// Those of the set and of one more change.
-    pub fn with(&self, change: &Change) -> Totals
+    pub(crate) fn with(&self, change: &Change) -> Totals
         requires set { AreWithinLimits self.now }
         requires change { IsWithinLimits change.now }
         ensures { result ≡ totals_with self.now change.now }
@@ -36,7 +40,7 @@ impl Totals {
     }
 
     /// The first limit that is passed.
-    pub fn limit(&self) -> Option<Limit>
+    pub(crate) fn limit(&self) -> Option<Limit>
         ensures { result ≡ limit_of self.now }
     {
         if self.changes > MOST_CHANGES {
