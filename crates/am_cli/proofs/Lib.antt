@@ -1,8 +1,13 @@
+pub mod Ascending
+pub mod Delivering
+pub mod LineWords
 pub mod Lines
+pub mod ListingLaws
 pub mod OneRun
 pub mod Plans
 pub mod Present
-pub mod Reading
+pub mod PrintedText
+pub mod Pushed
 pub mod Source
 pub mod Steps
 pub mod Stops
