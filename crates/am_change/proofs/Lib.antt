@@ -1,1 +1,4 @@
 pub mod Joined
+pub mod FrontLaws
+pub mod ContentsLaws
+pub mod Parsing

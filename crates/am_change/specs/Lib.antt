@@ -1,1 +1,4 @@
 pub mod Contents
+pub mod Fronts
+pub mod Judgement
+pub mod Building

@@ -1,7 +1,13 @@
+pub mod Ascending
+pub mod Delivering
+pub mod LineWords
 pub mod Lines
+pub mod ListingLaws
 pub mod OneRun
 pub mod Plans
-pub mod Reading
+pub mod Present
+pub mod PrintedText
+pub mod Pushed
 pub mod Source
 pub mod Steps
 pub mod Stops

@@ -1,19 +1,91 @@
--- Where files are told, the machine gives one reply to a command, and one list of replies to a script.
-use Rattle.std.proofs.Common.{◌≡◌, ℕ, List, [], ◌∷◌, length, Bool, Option, Some, None, Ok, Err, refl, sym, ap, subst, ◌∙◌, inl, inr, ◌⊎◌, arith}
+-- Where files are told, the machine gives one reply to a command, and one list of replies to a script, however the two
+-- sets are listed.
+use Rattle.std.proofs.Common.{◌≡◌, ℕ, ◌-◌, ◌<◌, ◌^◌, List, [], ◌∷◌, length, Bool, true, Option, Some, None, Ok, Err, refl, sym, ap, subst, ◌∙◌, inl, inr, ◌⊎◌, arith}
+use Rattle.std.specs.Prelude.{All, IsPermutation, find, not}
+use Rattle.std.proofs.lemmas.List.Sorted.{IsPermutation-refl, IsPermutation-sym, IsPermutation-trans, IsPermutation-map, length_permutation, list_any-IsPermutation}
 use Rattle.am_outside.specs.Files.{Files, Stands}
-use Rattle.am_frame.specs.Frames.{Chunk, IsFile, FirstBad}
-use Rattle.am_cli.specs.Script.{Asked}
-use Rattle.am_cli.specs.Machine.{State, state, Answers, Runs, Lists, listing, bad_frame, left_after}
-use Rattle.am_cli.specs.declared.command.Command.TheVariants.{Frames}
-use Rattle.am_cli.specs.declared.command.LineFault.TheVariants.{Syntax}
+use Rattle.am_frame.specs.Frames.{Chunk, IsFile}
+use Rattle.am_frame.specs.Faults.{FirstBad}
+use Rattle.am_frame.specs.declared.FrameFault.{FrameFault}
+use Rattle.am_types.specs.declared.Change.{Change}
+use Rattle.am_types.specs.declared.Hash.{Hash}
+use Rattle.am_types.specs.Order.{hash_cmp, sorted_by, same as same_by}
+use Rattle.am_types.specs.Members.{Member, hashes, heads, holds}
+use Rattle.am_types.specs.ValidSets.{Valid}
+use Rattle.am_types.specs.Deliver.{Sets, deliver, AreStored, MayCome}
+use Rattle.am_types.specs.Laws.{ListingIsFree}
+use Rattle.am_delivery.specs.Laws as delivery
+use Rattle.am_store.specs.Kept.{Kept, with_hashes}
+use Rattle.am_store.specs.Files as store
+use Rattle.am_store.specs.Laws.{OneReading, FilesMayCome}
+use Rattle.am_cli.specs.Line.{Asked}
+use Rattle.am_cli.specs.Replies.{hash_list}
+use Rattle.am_cli.specs.Listing.{Lists, listing, bad_chunk}
+use Rattle.am_cli.specs.Apply.{Applies, Delivers, outcome, report_text, bad_file}
+use Rattle.am_cli.specs.Reading.{reading_by, reading_at, reading}
+use Rattle.am_json.specs.declared.Form.{Form}
+use Rattle.am_json.specs.declared.Form.TheVariants as form
+use Rattle.am_cli.specs.Machine.{State, state, first_state, SameSets, SameState, Answers, Runs, left_after}
+use Rattle.am_cli.specs.declared.command.Command.TheVariants.{Frames, Apply, Heads, Waiting, Show, Conflicts}
+use Rattle.am_cli.specs.declared.command.LineFault.TheVariants.{Syntax, BadHash}
 
--- bytes are a file of chunks in one way, as am_frame says
-pub record OneReading : Type 0 where
+-- what the crates below promise
+pub record Laws : Type 0 where
   pub file : (bytes : List ℕ) (chunks others : List Chunk) → IsFile bytes chunks → IsFile bytes others → chunks ≡ others
-  pub bad : (bytes : List ℕ) (j k : ℕ) → FirstBad bytes j → FirstBad bytes k → j ≡ k
-  pub never_both : (bytes : List ℕ) (chunks : List Chunk) (k : ℕ) → IsFile bytes chunks → FirstBad bytes k → ⊥
+  pub bad : (bytes : List ℕ) (j k : ℕ) (fault other : FrameFault) → FirstBad bytes j fault → FirstBad bytes k other → (j ≡ k) × (fault ≡ other)
+  pub never_both : (bytes : List ℕ) (chunks : List Chunk) (k : ℕ) (fault : FrameFault) → IsFile bytes chunks → FirstBad bytes k fault → ⊥
+  pub loads : OneReading
+  pub may_come : FilesMayCome
+  pub deliveries : delivery.ListingIsFree
+  pub stored : delivery.StaysStored
+  pub reads : ListingIsFree
+  pub sorts : (xs ys : List Hash) → IsPermutation xs ys → sorted_by hash_cmp ys ≡ sorted_by hash_cmp xs
 
-one_listing : OneReading → (file other : Option (List ℕ)) (r s : List ℕ) → file ≡ other → Lists file r → Lists other s → r ≡ s
+-- ---- states that list the same sets
+
+same_sets : (k : Kept) → SameSets k k
+same_sets k = record { closed = IsPermutation-refl k.closed; waiting = IsPermutation-refl k.waiting }
+
+between : (j k l : Kept) → SameSets j k → SameSets j l → SameSets k l
+between j k l p q = record {
+  closed = IsPermutation-trans k.closed j.closed l.closed (IsPermutation-sym j.closed k.closed p.closed) q.closed;
+  waiting = IsPermutation-trans k.waiting j.waiting l.waiting (IsPermutation-sym j.waiting k.waiting p.waiting) q.waiting;
+}
+
+-- a state whose sets a store keeps, and whose files are told
+pub record Sound (s : State) : Type 0 where
+  pub stored : AreStored s.kept.closed s.kept.waiting
+  pub told : Files
+  pub files : s.files ≡ Some told
+
+-- two answers agree: one reply, and states that list the sets of one sound state
+pub record Agree (r q : List ℕ) (end other : State) : Type 0 where
+  pub reply : r ≡ q
+  pub next : State
+  pub sound : Sound next
+  pub left : SameState next end
+  pub right : SameState next other
+
+-- the same for the sets alone
+record AgreeSets (r q : List ℕ) (end other : Kept) : Type 0 where
+  reply : r ≡ q
+  next : Kept
+  stored : AreStored next.closed next.waiting
+  left : SameSets next end
+  right : SameSets next other
+
+stay : (c s t : State) (r q : List ℕ) (end other : State) → Sound c → SameState c s → SameState c t → r ≡ q → end ≡ s → other ≡ t → Agree r q end other
+stay c s t r q end other sound p k same e f = record {
+  reply = same;
+  next = c;
+  sound = sound;
+  left = subst (SameState c) (sym e) p;
+  right = subst (SameState c) (sym f) k;
+}
+
+-- ---- one command
+
+one_listing : Laws → (file other : Option (List ℕ)) (r s : List ℕ) → file ≡ other → Lists file r → Lists other s → r ≡ s
 one_listing law None None r s e p q = p ∙ sym q
 one_listing law None (Some bytes) r s e p q = absurd (cc)
 one_listing law (Some bytes) None r s e p q = absurd (cc)
@@ -24,58 +96,170 @@ one_listing law (Some bytes) (Some others) r s e p q = one (subst (λ b. Lists (
 
     one : Lists (Some bytes) s → Lists (Some bytes) r → r ≡ s
     one (inl q) (inl p) = p.2 ∙ ap listing (law.file bytes p.0 q.0 p.1 q.1) ∙ sym q.2
-    one (inr q) (inl p) = absurd (law.never_both bytes p.0 q.0 p.1 q.1)
-    one (inl q) (inr p) = absurd (law.never_both bytes q.0 p.0 q.1 p.1)
-    one (inr q) (inr p) = p.2 ∙ ap bad_frame (law.bad bytes p.0 q.0 p.1 q.1) ∙ sym q.2
+    one (inr q) (inl p) = absurd (law.never_both bytes p.0 q.0 q.1 p.1 q.2)
+    one (inl q) (inr p) = absurd (law.never_both bytes q.0 p.0 p.1 q.1 p.2)
+    one (inr q) (inr p) = let same = law.bad bytes p.0 q.0 p.1 q.1 p.2 q.2 in p.3 ∙ (λ i. bad_chunk (same.1 i) (same.0 i)) ∙ sym q.3
 
--- a state whose files are told
-abbrev Told : State → Type 0
-Told s = (files : Files) × (s.files ≡ Some files)
+-- what is told of a delivery is told of it to the same sets in another order
+one_report : Laws → (c s : Kept) (cs : List Change) (reply : List ℕ) (new : Kept) → AreStored c.closed c.waiting → All MayCome (with_hashes cs) → SameSets c s → Delivers s cs reply new →
+    (reply ≡ report_text (length (outcome c cs).closed - length c.closed) (length (outcome c cs).waiting) (outcome c cs).rejected)
+    × SameSets (record { closed = (outcome c cs).closed; waiting = (outcome c cs).waiting }) new
+one_report law c s cs reply new stored come same told =
+    let alike = law.deliveries c.closed s.closed c.waiting s.waiting (with_hashes cs) stored same.closed same.waiting come in
+    let closed = length_permutation (outcome c cs).closed (outcome s cs).closed alike.closed in
+    let waiting = length_permutation (outcome c cs).waiting (outcome s cs).waiting alike.waiting in
+    let before = length_permutation c.closed s.closed same.closed in
+    let rejected = sym alike.rejected in (
+      told.reply_is ∙ (λ i. report_text (closed i - before i) (waiting i) (rejected i)),
+      record {
+        closed = IsPermutation-trans (outcome c cs).closed (outcome s cs).closed new.closed alike.closed told.closed;
+        waiting = IsPermutation-trans (outcome c cs).waiting (outcome s cs).waiting new.waiting alike.waiting told.waiting;
+      },
+    )
 
-one_found : (s : State) (name : List ℕ) (file other : Option (List ℕ)) → Told s → Stands s.files name file → Stands s.files name other → file ≡ other
-one_found s name file other t p q =
-    let a = subst (λ f. Stands f name file) t.1 p in
-    let b = subst (λ f. Stands f name other) t.1 q in
+one_applied : Laws → (c s t : Kept) → AreStored c.closed c.waiting → SameSets c s → SameSets c t → (file other : Option (List ℕ)) (r q : List ℕ) (end last : Kept) → file ≡ other → Applies file s r end → Applies other t q last → AgreeSets r q end last
+one_applied law c s t stored p k None None r q end last e f g = record {
+  reply = f.0 ∙ sym g.0;
+  next = c;
+  stored = stored;
+  left = subst (SameSets c) (sym f.1) p;
+  right = subst (SameSets c) (sym g.1) k;
+}
+one_applied law c s t stored p k None (Some bytes) r q end last e f g = absurd (cc)
+one_applied law c s t stored p k (Some bytes) None r q end last e f g = absurd (cc)
+one_applied law c s t stored p k (Some bytes) (Some others) r q end last e f g = one f.1 (subst (λ b. Applies (Some b) t q last) (sym same) g).1
+  where
+    same : bytes ≡ others
+    same = cc
+
+    both : (cs : List Change) → store.IsFile true bytes cs → Delivers s cs r end → Delivers t cs q last → AgreeSets r q end last
+    both cs is x y =
+        let come = law.may_come true bytes cs is in
+        let here = one_report law c s cs r end stored come p x in
+        let there = one_report law c t cs q last stored come k y in
+        record {
+          reply = here.0 ∙ sym there.0;
+          next = record { closed = (outcome c cs).closed; waiting = (outcome c cs).waiting };
+          stored = law.stored c.closed c.waiting (with_hashes cs) stored come;
+          left = here.1;
+          right = there.1;
+        }
+
+    one : (((cs : List Change) × store.IsFile true bytes cs × Delivers s cs r end) ⊎ ((k : ℕ) × (fault : _) × store.FirstBad true bytes k fault × (r ≡ bad_file fault k) × (end ≡ s)))
+        → (((cs : List Change) × store.IsFile true bytes cs × Delivers t cs q last) ⊎ ((k : ℕ) × (fault : _) × store.FirstBad true bytes k fault × (q ≡ bad_file fault k) × (last ≡ t))) → AgreeSets r q end last
+    one (inl x) (inl y) = both x.0 x.1 x.2 (subst (λ cs. Delivers t cs q last) (law.loads.changes true bytes f.0 y.0 x.0 y.1 x.1) y.2)
+    one (inl x) (inr y) = absurd (law.loads.either true bytes f.0 x.0 y.0 y.1 x.1 y.2)
+    one (inr x) (inl y) = absurd (law.loads.either true bytes f.0 y.0 x.0 x.1 y.1 x.2)
+    one (inr x) (inr y) =
+        let number = law.loads.number true bytes f.0 x.0 y.0 x.1 y.1 x.2 y.2 in
+        let fault = law.loads.fault true bytes f.0 x.0 y.0 x.1 y.1 x.2 y.2 in
+        record {
+          reply = x.3 ∙ (λ i. bad_file (fault i) (number i)) ∙ sym y.3;
+          next = c;
+          stored = stored;
+          left = subst (SameSets c) (sym x.4) p;
+          right = subst (SameSets c) (sym y.4) k;
+        }
+
+-- what is read doesn't depend on how the closed set is listed
+one_reading_at : Laws → (form : Form) (hs : List Hash) (C D : List Member) → Valid C → IsPermutation C D → reading_at form hs D ≡ reading_at form hs C
+one_reading_at law form hs C D valid same =
+    let held : (h : Hash) → holds D h ≡ holds C h = λ h. sym (list_any-IsPermutation (same_by hash_cmp h) (hashes C) (hashes D) (IsPermutation-map (λ m. m.hash) C D same)) in
+    let seen = ((law.reads C D valid same).at hs).visible in λ i. reading_by (find (λ h. not (held h i)) hs) form (seen i)
+
+one_read : Laws → (form : Form) (named : List Hash) (C D : List Member) → Valid C → IsPermutation C D → reading form named D ≡ reading form named C
+one_read law form [] C D valid same = ap (λ hs. reading_at form hs D) (law.reads C D valid same).heads ∙ one_reading_at law form (heads C) C D valid same
+one_read law form (h ∷ hs) C D valid same = one_reading_at law form (h ∷ hs) C D valid same
+
+one_found : (c s t : State) (name : List ℕ) (file other : Option (List ℕ)) → Sound c → SameState c s → SameState c t → Stands s.files name file → Stands t.files name other → file ≡ other
+one_found c s t name file other sound p k f g =
+    let a = subst (λ x. Stands x name file) (sym p.files ∙ sound.files) f in
+    let b = subst (λ x. Stands x name other) (sym k.files ∙ sound.files) g in
     sym a ∙ b
 
-one_answer : OneReading → (start : State) (asked : Asked) (r s : List ℕ) (end other : State) → Told start → Answers start asked r end → Answers start asked s other → (r ≡ s) × (end ≡ other)
-one_answer law start (Ok (Frames name)) r s end other t p q = (one_listing law p.0 q.0 r s (one_found start name p.0 q.0 t p.1 q.1) p.2 q.2, p.3 ∙ sym q.3)
-one_answer law start (Err Syntax) r s end other t p q = (p.0 ∙ sym q.0, p.1 ∙ sym q.1)
+one_answer : Laws → (c s t : State) (asked : Asked) (r q : List ℕ) (end other : State) → Sound c → SameState c s → SameState c t → Answers s asked r end → Answers t asked q other → Agree r q end other
+one_answer law c s t (Ok (Frames name)) r q end other sound p k f g = stay c s t r q end other sound p k (one_listing law f.0 g.0 r q (one_found c s t name f.0 g.0 sound p k f.1 g.1) f.2 g.2) f.3 g.3
+one_answer law c s t (Ok (Apply name)) r q end other sound p k f g =
+    let sets = one_applied law c.kept s.kept t.kept sound.stored p.sets k.sets f.0 g.0 r q end.kept other.kept (one_found c s t name f.0 g.0 sound p k f.1 g.1) f.2 g.2 in
+    record {
+      reply = sets.reply;
+      next = state sets.next c.files;
+      sound = record { stored = sets.stored; told = sound.told; files = sound.files };
+      left = record { sets = sets.left; files = p.files ∙ sym f.3 };
+      right = record { sets = sets.right; files = k.files ∙ sym g.3 };
+    }
+one_answer law c s t (Ok Heads) r q end other sound p k f g =
+    let here = (law.reads c.kept.closed s.kept.closed sound.stored.valid p.sets.closed).heads in
+    let there = (law.reads c.kept.closed t.kept.closed sound.stored.valid k.sets.closed).heads in
+    stay c s t r q end other sound p k (f.0 ∙ ap hash_list (here ∙ sym there) ∙ sym g.0) f.1 g.1
+one_answer law c s t (Ok Waiting) r q end other sound p k f g =
+    let here = law.sorts (hashes c.kept.waiting) (hashes s.kept.waiting) (IsPermutation-map (λ m. m.hash) c.kept.waiting s.kept.waiting p.sets.waiting) in
+    let there = law.sorts (hashes c.kept.waiting) (hashes t.kept.waiting) (IsPermutation-map (λ m. m.hash) c.kept.waiting t.kept.waiting k.sets.waiting) in
+    stay c s t r q end other sound p k (f.0 ∙ ap hash_list (here ∙ sym there) ∙ sym g.0) f.1 g.1
+one_answer law c s t (Ok (Show named)) r q end other sound p k f g =
+    let here = one_read law form.Winners named c.kept.closed s.kept.closed sound.stored.valid p.sets.closed in
+    let there = one_read law form.Winners named c.kept.closed t.kept.closed sound.stored.valid k.sets.closed in
+    stay c s t r q end other sound p k (f.0 ∙ here ∙ sym there ∙ sym g.0) f.1 g.1
+one_answer law c s t (Ok (Conflicts named)) r q end other sound p k f g =
+    let here = one_read law form.All named c.kept.closed s.kept.closed sound.stored.valid p.sets.closed in
+    let there = one_read law form.All named c.kept.closed t.kept.closed sound.stored.valid k.sets.closed in
+    stay c s t r q end other sound p k (f.0 ∙ here ∙ sym there ∙ sym g.0) f.1 g.1
+one_answer law c s t (Err Syntax) r q end other sound p k f g = stay c s t r q end other sound p k (f.0 ∙ sym g.0) f.1 g.1
+one_answer law c s t (Err BadHash) r q end other sound p k f g = stay c s t r q end other sound p k (f.0 ∙ sym g.0) f.1 g.1
 
-stays_told : (start : State) (asked : Asked) (r : List ℕ) (end : State) → Told start → Answers start asked r end → Told end
-stays_told start (Ok (Frames name)) r end t p = (t.0, ap (λ s. s.files) p.3 ∙ t.1)
-stays_told start (Err Syntax) r end t p = (t.0, ap (λ s. s.files) p.1 ∙ t.1)
+-- ---- whole scripts
+
+same_state : (c s t : State) → SameState c s → SameState c t → SameState s t
+same_state c s t p k = record { sets = between c.kept s.kept t.kept p.sets k.sets; files = sym p.files ∙ k.files }
 
 -- as many replies are the same ones, and leave the same to do
-same_front : OneReading → (stops : Bool) (start : State) (asked : List Asked) (rs ss : List (List ℕ)) (end other : State) (left more : List Asked) → Told start → Runs stops start asked rs end left → Runs stops start asked ss other more → length rs ≡ length ss → (rs ≡ ss) × (end ≡ other) × (left ≡ more)
-same_front law stops start asked [] [] end other left more t p q n = (refl, p.0 ∙ sym q.0, p.1 ∙ sym q.1)
-same_front law stops start asked [] (s ∷ ss) end other left more t p q n = absurd (omega arith)
-same_front law stops start asked (r ∷ rs) [] end other left more t p q n = absurd (omega arith)
-same_front law stops start [] (r ∷ rs) (s ∷ ss) end other left more t p q n = absurd p
-same_front law stops start (a ∷ later) (r ∷ rs) (s ∷ ss) end other left more t p q n =
-    let step = one_answer law start a r s p.0 q.0 t p.1 q.1 in
-    let behind : left_after stops r later ≡ left_after stops s later = ap (λ x. left_after stops x later) step.0 in
-    let rest = same_front law stops q.0 (left_after stops s later) rs ss end other left more (stays_told start a s q.0 t q.1) (subst (λ l. Runs stops q.0 l rs end left) behind (subst (λ m. Runs stops m (left_after stops r later) rs end left) step.1 p.2)) q.2 (omega arith) in
-    (λ i. step.0 i ∷ rest.0 i, rest.1, rest.2)
+same_front : Laws → (stops : Bool) (c s t : State) (asked : List Asked) (rs qs : List (List ℕ)) (end other : State) (left more : List Asked) → Sound c → SameState c s → SameState c t → Runs stops s asked rs end left → Runs stops t asked qs other more → length rs ≡ length qs → (rs ≡ qs) × SameState end other × (left ≡ more)
+same_front law stops c s t asked [] [] end other left more sound p k f g n = (refl, same_state c end other (subst (SameState c) (sym f.0) p) (subst (SameState c) (sym g.0) k), f.1 ∙ sym g.1)
+same_front law stops c s t asked [] (q ∷ qs) end other left more sound p k f g n = absurd (omega arith)
+same_front law stops c s t asked (r ∷ rs) [] end other left more sound p k f g n = absurd (omega arith)
+same_front law stops c s t [] (r ∷ rs) (q ∷ qs) end other left more sound p k f g n = absurd f
+same_front law stops c s t (a ∷ later) (r ∷ rs) (q ∷ qs) end other left more sound p k f g n =
+    let step = one_answer law c s t a r q f.0 g.0 sound p k f.1 g.1 in
+    let behind : left_after stops r later ≡ left_after stops q later = ap (λ x. left_after stops x later) step.reply in
+    let rest = same_front law stops step.next f.0 g.0 (left_after stops q later) rs qs end other left more step.sound step.left step.right (subst (λ l. Runs stops f.0 l rs end left) behind f.2) g.2 (omega arith) in
+    (λ i. step.reply i ∷ rest.0 i, rest.1, rest.2)
 
 -- replies that leave nothing to do are as many
-same_length : OneReading → (stops : Bool) (start : State) (asked : List Asked) (rs ss : List (List ℕ)) (end other : State) → Told start → Runs stops start asked rs end [] → Runs stops start asked ss other [] → length rs ≡ length ss
-same_length law stops start asked [] [] end other t p q = refl
-same_length law stops start [] [] (s ∷ ss) end other t p q = absurd q
-same_length law stops start (a ∷ later) [] (s ∷ ss) end other t p q = absurd (cc)
-same_length law stops start [] (r ∷ rs) ss end other t p q = absurd p
-same_length law stops start (a ∷ later) (r ∷ rs) [] end other t p q = absurd (cc)
-same_length law stops start (a ∷ later) (r ∷ rs) (s ∷ ss) end other t p q =
-    let step = one_answer law start a r s p.0 q.0 t p.1 q.1 in
-    let behind : left_after stops r later ≡ left_after stops s later = ap (λ x. left_after stops x later) step.0 in
-    let rest = same_length law stops q.0 (left_after stops s later) rs ss end other (stays_told start a s q.0 t q.1) (subst (λ l. Runs stops q.0 l rs end []) behind (subst (λ m. Runs stops m (left_after stops r later) rs end []) step.1 p.2)) q.2 in
+same_length : Laws → (stops : Bool) (c s t : State) (asked : List Asked) (rs qs : List (List ℕ)) (end other : State) → Sound c → SameState c s → SameState c t → Runs stops s asked rs end [] → Runs stops t asked qs other [] → length rs ≡ length qs
+same_length law stops c s t asked [] [] end other sound p k f g = refl
+same_length law stops c s t [] [] (q ∷ qs) end other sound p k f g = absurd g
+same_length law stops c s t (a ∷ later) [] (q ∷ qs) end other sound p k f g = absurd (cc)
+same_length law stops c s t [] (r ∷ rs) qs end other sound p k f g = absurd f
+same_length law stops c s t (a ∷ later) (r ∷ rs) [] end other sound p k f g = absurd (cc)
+same_length law stops c s t (a ∷ later) (r ∷ rs) (q ∷ qs) end other sound p k f g =
+    let step = one_answer law c s t a r q f.0 g.0 sound p k f.1 g.1 in
+    let behind : left_after stops r later ≡ left_after stops q later = ap (λ x. left_after stops x later) step.reply in
+    let rest = same_length law stops step.next f.0 g.0 (left_after stops q later) rs qs end other step.sound step.left step.right (subst (λ l. Runs stops f.0 l rs end []) behind f.2) g.2 in
     omega (arith, rest)
 
-pub whole : OneReading → (stops : Bool) (files : Files) (asked : List Asked) (rs ss : List (List ℕ)) (end other : State) → Runs stops (state (Some files)) asked rs end [] → Runs stops (state (Some files)) asked ss other [] → (rs ≡ ss) × (end ≡ other)
-whole law stops files asked rs ss end other p q =
-    let n = same_length law stops (state (Some files)) asked rs ss end other (files, refl) p q in
-    let same = same_front law stops (state (Some files)) asked rs ss end other [] [] (files, refl) p q n in
-    (same.0, same.1)
+-- the first state
+empty_stored : AreStored [] []
+empty_stored = record {
+  valid = record { listing = []; same = IsPermutation-refl []; in_turn = tt };
+  waiting = λ k d lt. absurd (omega arith);
+  hashes = λ i j d lt less. absurd (omega arith);
+  settled = refl;
+}
 
-pub front : OneReading → (stops : Bool) (files : Files) (asked : List Asked) (rs ss : List (List ℕ)) (end other : State) (left more : List Asked) → Runs stops (state (Some files)) asked rs end left → Runs stops (state (Some files)) asked ss other more → length rs ≡ length ss → (rs ≡ ss) × (end ≡ other) × (left ≡ more)
-front law stops files asked rs ss end other left more p q n = same_front law stops (state (Some files)) asked rs ss end other left more (files, refl) p q n
+first_sound : (files : Files) → Sound (first_state (Some files))
+first_sound files = record { stored = empty_stored; told = files; files = refl }
+
+first_same : (files : Files) → SameState (first_state (Some files)) (first_state (Some files))
+first_same files = record { sets = same_sets (record { closed = []; waiting = [] }); files = refl }
+
+pub front : Laws → (stops : Bool) (files : Files) (asked : List Asked) (rs qs : List (List ℕ)) (end other : State) (left more : List Asked) → Runs stops (first_state (Some files)) asked rs end left → Runs stops (first_state (Some files)) asked qs other more → length rs ≡ length qs → (rs ≡ qs) × SameState end other × (left ≡ more)
+front law stops files asked rs qs end other left more f g n =
+    let s = first_state (Some files) in
+    same_front law stops s s s asked rs qs end other left more (first_sound files) (first_same files) (first_same files) f g n
+
+pub whole : Laws → (stops : Bool) (files : Files) (asked : List Asked) (rs qs : List (List ℕ)) (end other : State) → Runs stops (first_state (Some files)) asked rs end [] → Runs stops (first_state (Some files)) asked qs other [] → (rs ≡ qs) × SameState end other
+whole law stops files asked rs qs end other f g =
+    let s = first_state (Some files) in
+    let n = same_length law stops s s s asked rs qs end other (first_sound files) (first_same files) (first_same files) f g in
+    let same = front law stops files asked rs qs end other [] [] f g n in
+    (same.0, same.1)

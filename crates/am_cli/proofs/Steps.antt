@@ -6,8 +6,9 @@ use Rattle.std.proofs.lemmas.List.Folds.{list_any-append}
 use Rattle.std.specs.Io.KnownBytes.{append_known}
 use Rattle.std.proofs.lemmas.Grind.{common_steps}
 use Rattle.am_outside.specs.Counts.{Rose, RoseBy}
-use Rattle.am_cli.specs.Script.{Asked}
-use Rattle.am_cli.specs.Machine.{State, Answers, Runs, left_after, is_absent, is_refused}
+use Rattle.am_cli.specs.Line.{Asked}
+use Rattle.am_cli.specs.Replies.{is_absent, is_refused}
+use Rattle.am_cli.specs.Machine.{State, Answers, Runs, left_after}
 use Rattle.am_cli.specs.Carried.{Carried}
 use Rattle.am_cli.proofs.Written.{append_twice}
 

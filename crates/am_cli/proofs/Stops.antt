@@ -1,5 +1,5 @@
 -- A run stops at a command, or in the midst of its reply.
-use Rattle.std.proofs.Common.{◌≡◌, ℕ, zero, suc, ◌+◌, ◌-◌, ◌≤◌, ◌<◌, List, [], ◌∷◌, ◌++◌, length, take, Bool, Option, Result, Err, refl, sym, ap, subst, ◌∙◌, arith, length-append}
+use Rattle.std.proofs.Common.{◌≡◌, ℕ, zero, suc, ◌+◌, ◌-◌, ◌≤◌, ◌<◌, List, [], ◌∷◌, ◌++◌, length, take, Bool, Option, None, Some, Result, Err, append-nil, refl, sym, ap, subst, ◌∙◌, arith, length-append}
 use Rattle.std.specs.Prelude.{IsErrOf, IsTrue, OnErr, count_by}
 use Rattle.std.specs.List.{concat}
 use Rattle.std.specs.Io.KnownBytes.{append_known}
@@ -9,8 +9,9 @@ use Rattle.am_outside.specs.Counts.{RoseBy}
 use Rattle.am_outside.specs.Files.{Files}
 use Rattle.am_outside.specs.declared.faults.WriteFault.{WriteFault}
 use Rattle.am_outside.specs.declared.faults.WriteFault.TheVariants as write
-use Rattle.am_cli.specs.Script.{Asked}
-use Rattle.am_cli.specs.Machine.{State, Answers, left_after, names_file, kept_file, is_absent}
+use Rattle.am_cli.specs.Line.{Asked}
+use Rattle.am_cli.specs.Replies.{is_absent}
+use Rattle.am_cli.specs.Machine.{State, Answers, left_after, names_file, kept_file}
 use Rattle.am_cli.specs.Ends.{FilesStay, FilesLeft, IsCut}
 use Rattle.am_cli.specs.Gives.{HaltOfStop, HaltOfWrite}
 use Rattle.am_cli.specs.Carried.{Carried, Stopped}
@@ -97,3 +98,22 @@ stopped-reply stops asked replies s t u v w z a b c one rest more reply r write.
 stopped-reply stops asked replies s t u v w z a b c one rest more reply r write.NoMemory made next is gives so_far step misses cut =
     let at = subst (λ r. OnErr r ((m : ℕ) × (m < length reply) × (z ≡ append_known w (take m reply)))) is cut in
     subst (λ h. Stopped stops asked h s u.files v z a c) (sym gives) (in_a_reply stops asked replies s t u v w z a b c one more reply halt.NoMemory (λ n all less. omega arith) (λ left files. refl) (subst (λ l. Carried stops asked replies l s t v w a b) next so_far) step misses at.0 at.1 at.2)
+
+append_nothing : (known : Option (List ℕ)) → known ≡ append_known known []
+append_nothing None = refl
+append_nothing (Some all) = ap Some (sym (append-nil all))
+
+-- no command was begun
+pub nothing_done : (stops : Bool) (asked : List Asked) (s : State) (v : Option (List ℕ)) (a : ℕ) → Stopped stops asked halt.NoMemory s s.files v v a a
+nothing_done stops asked s v a = record {
+  replies = [];
+  left = asked;
+  new = s;
+  count = 0;
+  runs = (refl, refl);
+  kept = refl;
+  written = append_nothing v;
+  whole = omega arith;
+  cut = omega arith;
+  misses = omega arith;
+}

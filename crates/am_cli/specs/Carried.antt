@@ -4,8 +4,9 @@ use Rattle.std.specs.List.{concat}
 use Rattle.std.specs.Io.KnownBytes.{append_known}
 use Rattle.am_outside.specs.Counts.{RoseBy}
 use Rattle.am_outside.specs.Files.{Files}
-use Rattle.am_cli.specs.Script.{Asked}
-use Rattle.am_cli.specs.Machine.{State, Runs, is_absent}
+use Rattle.am_cli.specs.Line.{Asked}
+use Rattle.am_cli.specs.Replies.{is_absent}
+use Rattle.am_cli.specs.Machine.{State, Runs}
 use Rattle.am_cli.specs.Ends.{FilesLeft, IsCut}
 use Rattle.am_cli.specs.declared.halt.Halt.{Halt}
 

@@ -2,7 +2,7 @@
 use Rattle.std.specs.Prelude.{◌≡◌, ℕ, ◌≤◌, ◌<◌, List, [], ◌∷◌, length, IsTrue, Option, None, Some}
 use Rattle.std.specs.List.{concat}
 use Rattle.am_outside.specs.Files.{Files, SameBut}
-use Rattle.am_cli.specs.Script.{Asked}
+use Rattle.am_cli.specs.Line.{Asked}
 use Rattle.am_cli.specs.Machine.{names_file, kept_file}
 use Rattle.am_cli.specs.declared.halt.Halt.{Halt}
 use Rattle.am_cli.specs.declared.halt.Halt.TheVariants.{File, Output, NoMemory}

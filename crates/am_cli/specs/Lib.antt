@@ -1,5 +1,10 @@
+pub mod Line
 pub mod Script
 pub mod Words
+pub mod Replies
+pub mod Listing
+pub mod Apply
+pub mod Reading
 pub mod Machine
 pub mod Ends
 pub mod Carried

@@ -4,8 +4,10 @@ use Rattle.std.specs.List.{list_any}
 use Rattle.std.specs.Io.KnownBytes.{IsAtEnd}
 use Rattle.am_outside.specs.Counts.{raised}
 use Rattle.am_outside.specs.Files.{Files}
-use Rattle.am_cli.specs.Script.{Asked, all_asked}
-use Rattle.am_cli.specs.Machine.{State, state, is_refused}
+use Rattle.am_cli.specs.Line.{Asked}
+use Rattle.am_cli.specs.Script.{all_asked}
+use Rattle.am_cli.specs.Replies.{is_refused}
+use Rattle.am_cli.specs.Machine.{State, first_state}
 use Rattle.am_cli.specs.Carried.{Carried, Stopped}
 use Rattle.am_cli.specs.declared.plan.Plan.{Plan}
 use Rattle.am_cli.specs.declared.plan.Plan.TheVariants.{ReadInput}
@@ -77,13 +79,13 @@ IsBefore status.NoMemory = ⊥
 pub record Finished (stops : Bool) (asked : List Asked) (refused : Bool) (before after : Outside) : Type 0 where
   pub replies : List (List ℕ)
   pub end : State
-  pub carried : Carried stops asked replies [] (state before.files) end before.written after.written before.misses after.misses
+  pub carried : Carried stops asked replies [] (first_state before.files) end before.written after.written before.misses after.misses
   pub files : after.files ≡ end.files
   pub refuses : refused ≡ list_any is_refused replies
 
 -- the run ended within the commands
 abbrev pub Broken : Bool → List Asked → Halt → Outside → Outside → Type 0
-Broken stops asked halt before after = Stopped stops asked halt (state before.files) after.files before.written after.written before.misses after.misses
+Broken stops asked halt before after = Stopped stops asked halt (first_state before.files) after.files before.written after.written before.misses after.misses
 
 -- the exit status, a number for each way in which a run may end
 abbrev pub exit_status : Status → ℕ

@@ -1,29 +1,28 @@
 //! The commands carried out, one after another.
-ghost use Rattle.std.specs.Prelude.{◌≡◌, ◌≤◌, ◌&&◌, ℕ, List, [], length, Bool, Some, IfOk, IfErr, IsErrOf};
+ghost use Rattle.std.specs.Prelude.{◌≡◌, ◌≤◌, ◌&&◌, ℕ, List, [], IfOk, IfErr, IsErrOf};
 ghost use Rattle.std.specs.List.{list_any};
 ghost use Rattle.am_outside.specs.Counts.{Rose};
-ghost use Rattle.am_outside.specs.Files.{Files};
-ghost use Rattle.am_cli.specs.Script.{Asked};
-ghost use Rattle.am_cli.specs.Machine.{State, state, Runs, is_refused};
+ghost use Rattle.am_cli.specs.Replies.{is_refused};
+ghost use Rattle.am_cli.specs.Machine.{state};
 ghost use Rattle.am_cli.specs.Carried.{Carried, Stopped};
 
 use crate::answer::answer;
 use crate::command::{Command, LineFault};
 use crate::halt::Halt;
 use crate::output::write_whole;
-use am_frame::one_reading;
 use am_outside::{Folder, Sink};
+use am_store::Store;
 use std::alloc::Global;
 
 // Whether a reply refuses its command.
-fn refuses(reply: &str) -> bool
+fn refuses(reply: &[u8]) -> bool
     ensures { result ≡ is_refused reply.now }
 {
-    reply.as_bytes().starts_with(b"refused")
+    reply.starts_with(b"refused")
 }
 
 // Whether a run ends after this reply.
-fn ends_at(stops: bool, reply: &str) -> bool
+fn ends_at(stops: bool, reply: &[u8]) -> bool
     ensures { result ≡ (stops && is_refused reply.now) }
 {
     stops && refuses(reply)
@@ -35,11 +34,12 @@ pub fn carry_out<F: Folder, O: Sink>(
     alloc: Global,
     stops: bool,
     asked: &[Result<Command, LineFault>],
+    store: &mut Store,
     files: &mut F,
     out: &mut O,
 ) -> Result<bool, Halt>
-    ensures carried { IfOk result (λ some_refused. (replies : List (List ℕ)) × Carried stops asked.now replies [] (state (F.files files.old)) (state (F.files files.new)) (O.written out.old) (O.written out.new) (F.misses files.old) (F.misses files.new) × (some_refused ≡ list_any is_refused replies)) }
-    ensures stopped { IfErr result (λ halt. Stopped stops asked.now halt (state (F.files files.old)) (F.files files.new) (O.written out.old) (O.written out.new) (F.misses files.old) (F.misses files.new)) }
+    ensures carried { IfOk result (λ some_refused. (replies : List (List ℕ)) × Carried stops asked.now replies [] (state store.old (F.files files.old)) (state store.new (F.files files.new)) (O.written out.old) (O.written out.new) (F.misses files.old) (F.misses files.new) × (some_refused ≡ list_any is_refused replies)) }
+    ensures stopped { IfErr result (λ halt. Stopped stops asked.now halt (state store.old (F.files files.old)) (F.files files.new) (O.written out.old) (O.written out.new) (F.misses files.old) (F.misses files.new)) }
 
     ensures file { IsErrOf result Halt.File → Rose (F.faults files.old) (F.faults files.new) }
     ensures output { IsErrOf result Halt.Output → Rose (O.faults out.old) (O.faults out.new) }
@@ -48,24 +48,12 @@ pub fn carry_out<F: Folder, O: Sink>(
 {
     let mut some_refused = false;
     for one in asked {
-        let reply = answer(alloc, one, files)?;
-        write_whole(out, reply.as_str().as_bytes())?;
-        some_refused |= refuses(reply.as_str());
-        if ends_at(stops, reply.as_str()) {
+        let reply = answer(alloc, one, store, files)?;
+        write_whole(out, reply.as_slice())?;
+        some_refused |= refuses(reply.as_slice());
+        if ends_at(stops, reply.as_slice()) {
             return Ok(some_refused);
         }
     }
     Ok(some_refused)
-}
-
-/// Where files are told, the machine gives one list of replies to the same commands, and goes on to one state; and so it
-/// does up to each place.
-pub fn one_run()
-    ensures whole { (stops : Bool) (files : Files) (asked : List Asked) (replies others : List (List ℕ)) (end other : State)
-        → Runs stops (state (Some files)) asked replies end [] → Runs stops (state (Some files)) asked others other [] → (replies ≡ others) × (end ≡ other) }
-    ensures front { (stops : Bool) (files : Files) (asked : List Asked) (replies others : List (List ℕ)) (end other : State) (left more : List Asked)
-        → Runs stops (state (Some files)) asked replies end left → Runs stops (state (Some files)) asked others other more → length replies ≡ length others
-        → (replies ≡ others) × (end ≡ other) × (left ≡ more) }
-{
-    one_reading();
 }

@@ -2,13 +2,19 @@
 #![tactic(auto)]
 
 mod answer;
+mod apply;
 mod carry;
 mod command;
 mod halt;
+mod heads;
 mod input;
+mod laws;
+mod line;
 mod listing;
 mod output;
 mod plan;
+mod reading;
+mod replies;
 mod run;
 mod script;
 mod words;

@@ -1,7 +1,7 @@
 //! The top call.
 ghost use Rattle.std.specs.Prelude.{◌≡◌, ◌≢◌, ◌≤◌, ◌<◌, ◌+◌, ◌↔◌, ◌⊎◌, List, length, IfOk, IfSome, IsErrOf, Some, None, Bool};
 ghost use Rattle.am_outside.specs.Counts.{Rose, RoseBy};
-ghost use Rattle.am_cli.specs.Script.{Asked};
+ghost use Rattle.am_cli.specs.Line.{Asked};
 ghost use Rattle.am_cli.specs.Words.{plan_of, stops_of};
 ghost use Rattle.am_cli.specs.Top.{Asks, Finished, Broken, IsBefore, some_is_refused, halt_of};
 
@@ -12,6 +12,7 @@ use crate::input::{LONGEST, Unread, read_all};
 use crate::plan::Plan;
 use crate::script::read_script;
 use crate::words::plan;
+use am_store::Store;
 use am_outside::{Folder, Sink, Source};
 use am_types::Text;
 use std::alloc::Global;
@@ -77,7 +78,10 @@ fn carry_all<F: Folder, O: Sink>(
     ensures file_faults { F.faults files.old ≤ F.faults files.new }
     ensures output_faults { O.faults out.old ≤ O.faults out.new }
 {
-    match carry_out(alloc, stops, asked, files, out) {
+    let Ok(mut store) = Store::new(alloc) else {
+        return Status::NoMemory;
+    };
+    match carry_out(alloc, stops, asked, &mut store, files, out) {
         Ok(false) => Status::Done,
         Ok(true) => Status::SomeRefused,
         Err(Halt::File) => Status::FileFault,

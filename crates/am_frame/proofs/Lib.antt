@@ -1,3 +1,6 @@
 pub mod Parts
+pub mod OneChunk
+pub mod FaultLaws
+pub mod HeadLaws
 pub mod Unique
 pub mod Verdict

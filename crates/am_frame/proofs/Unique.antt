@@ -1,43 +1,18 @@
 -- Bytes are the frames of chunks in one way at most.
-use Rattle.std.proofs.Common.{◌≡◌, ℕ, suc, ◌+◌, ◌<◌, ◌^◌, List, [], ◌∷◌, ◌++◌, length, take, drop, refl, sym, ap, ◌∙◌, arith, append_assoc, append-nil, Ok}
-use Rattle.std.specs.Prelude.{All, flat_map, Result}
-use Rattle.std.specs.Result.{result_unwrap_or}
-use Rattle.std.proofs.lemmas.List.{append_cancel_left}
-use Rattle.std.proofs.Math.Seq.{take-append_seam, drop-append_seam}
-use Rattle.am_leb.specs.Leb.{uleb}
-use Rattle.am_leb.specs.declared.LebFault.{LebFault}
-use Rattle.am_leb.proofs.Answering.{only}
-use Rattle.am_frame.specs.Frames.{sized, Chunk, IsChunk, chunk_bytes, BeginsNoChunk, IsFile, FirstBad}
-use Rattle.am_frame.proofs.Parts.{frame_parts, chunk_cut}
+use Rattle.std.proofs.Common.{◌≡◌, ℕ, suc, ◌+◌, List, [], ◌∷◌, ◌++◌, length, refl, sym, ap, subst, ◌∙◌, arith, append_assoc, append-nil}
+use Rattle.std.specs.Prelude.{All, flat_map}
+use Rattle.am_frame.specs.Frames.{Chunk, IsChunk, chunk_bytes, IsFile}
+use Rattle.am_frame.specs.Faults.{HasFault, FirstBad}
+use Rattle.am_frame.specs.declared.fault.FrameFault.{FrameFault}
+use Rattle.am_frame.proofs.OneChunk.{one_chunk}
+use Rattle.am_frame.proofs.FaultLaws.{one_fault, none_at_a_chunk}
 
-fields : (a b c d : ℕ) → ◌≡◌ {A = Result (ℕ × ℕ) LebFault} (Ok (a, b)) (Ok (c, d)) → a ≡ c
-fields a b c d e = ap (λ r. (result_unwrap_or {T = ℕ × ℕ} r (0, 0)).0) e
+-- the bytes begin with no chunk
+abbrev BeginsNoChunk : List ℕ → Type 0
+BeginsNoChunk bytes = (chunk : Chunk) (rest : List ℕ) → IsChunk chunk → bytes ≡ chunk_bytes chunk ++ rest → ⊥
 
-same_front : (a b r q : List ℕ) → length a ≡ length b → a ++ r ≡ b ++ q → (a ≡ b) × (r ≡ q)
-same_front a b r q n e = (
-  sym (take-append_seam a r) ∙ ap (take (length a)) e ∙ ap (λ k. take k (b ++ q)) n ∙ take-append_seam b q,
-  sym (drop-append_seam a r) ∙ ap (drop (length a)) e ∙ ap (λ k. drop k (b ++ q)) n ∙ drop-append_seam b q,
-)
-
-pub one_sized : (a b r q : List ℕ) → length a < 2 ^ 64 → length b < 2 ^ 64 → sized a ++ r ≡ sized b ++ q → (a ≡ b) × (r ≡ q)
-one_sized a b r q la lb e =
-    let left = only (sized a ++ r) (length a) (a ++ r) la (append_assoc (uleb (length a)) a r) in
-    let right = only (sized a ++ r) (length b) (b ++ q) lb (e ∙ append_assoc (uleb (length b)) b q) in
-    let n = fields _ _ _ _ (sym left ∙ right) in
-    let all : uleb (length a) ++ (a ++ r) ≡ uleb (length a) ++ (b ++ q) =
-    sym (append_assoc (uleb (length a)) a r) ∙ e ∙ append_assoc (uleb (length b)) b q ∙ ap (λ k. uleb k ++ (b ++ q)) (sym n) in
-    same_front a b r q n (append_cancel_left (uleb (length a)) (a ++ r) (b ++ q) all)
-
-pub one_chunk : (c d : Chunk) (r q : List ℕ) → IsChunk c → IsChunk d → chunk_bytes c ++ r ≡ chunk_bytes d ++ q → (c ≡ d) × (r ≡ q)
-one_chunk c d r q is js e =
-    let bytes = chunk_bytes c ++ r in
-    let head = drop 4 bytes in
-    let body = drop 4 head in
-    let left = frame_parts bytes head body (drop 1 body) _ c.contents r c.kind refl refl refl (chunk_cut bytes c r is refl) in
-    let right = frame_parts bytes head body (drop 1 body) _ d.contents q d.kind refl refl refl (chunk_cut bytes d q js e) in
-    let rest = one_sized c.contents d.contents r q is.1 js.1 (sym left.2 ∙ right.2) in
-    let kinds = sym left.1 ∙ right.1 in
-    (λ i. record { kind = kinds i; contents = rest.0 i }, rest.1)
+no_chunk : (b : List ℕ) (fault : FrameFault) → HasFault b fault → BeginsNoChunk b
+no_chunk b fault bad chunk rest is e = none_at_a_chunk b chunk rest fault is e bad
 
 later : (x : Chunk) (xs : List Chunk) → All IsChunk (x ∷ xs) → All IsChunk xs
 later x xs all k d lt = all (suc k) d (omega arith)
@@ -62,12 +37,12 @@ nothing chunk rest is e = cc
 pub one_file : (bytes : List ℕ) (xs ys : List Chunk) → IsFile bytes xs → IsFile bytes ys → xs ≡ ys
 one_file bytes xs ys f g = (one_reading xs ys [] [] f.each g.each (ap (λ b. b ++ []) (sym f.bytes_are ∙ g.bytes_are)) nothing nothing).0
 
-pub one_bad : (bytes : List ℕ) (j k : ℕ) → FirstBad bytes j → FirstBad bytes k → j ≡ k
-one_bad bytes j k f g =
-    let same = one_reading f.before g.before f.rest g.rest f.each g.each (sym f.bytes_are ∙ g.bytes_are) f.bad g.bad in
-    f.number ∙ ap (λ xs. length xs + 1) same.0 ∙ sym g.number
+pub one_bad : (bytes : List ℕ) (j k : ℕ) (fault other : FrameFault) → FirstBad bytes j fault → FirstBad bytes k other → (j ≡ k) × (fault ≡ other)
+one_bad bytes j k fault other f g =
+    let same = one_reading f.before g.before f.rest g.rest f.each g.each (sym f.bytes_are ∙ g.bytes_are) (no_chunk f.rest fault f.bad) (no_chunk g.rest other g.bad) in
+    (f.number ∙ ap (λ xs. length xs + 1) same.0 ∙ sym g.number, one_fault g.rest fault other (subst (λ r. HasFault r fault) same.1 f.bad) g.bad)
 
-pub never_both : (bytes : List ℕ) (xs : List Chunk) (k : ℕ) → IsFile bytes xs → FirstBad bytes k → ⊥
-never_both bytes xs k f g =
-    let same = one_reading xs g.before [] g.rest f.each g.each (append-nil (flat_map chunk_bytes xs) ∙ sym f.bytes_are ∙ g.bytes_are) nothing g.bad in
+pub never_both : (bytes : List ℕ) (xs : List Chunk) (k : ℕ) (fault : FrameFault) → IsFile bytes xs → FirstBad bytes k fault → ⊥
+never_both bytes xs k fault f g =
+    let same = one_reading xs g.before [] g.rest f.each g.each (append-nil (flat_map chunk_bytes xs) ∙ sym f.bytes_are ∙ g.bytes_are) nothing (no_chunk g.rest fault g.bad) in
     omega (arith, g.more, ap length same.1)

@@ -1,6 +1,6 @@
 -- The chunks of a file and their frames (Automerge Binary Document Format, chunks). Words in this order: a frame and
--- its parts, a chunk, a file of chunks, the first chunk of a file that is bad.
-use Rattle.std.specs.Prelude.{◌≡◌, ℕ, ◌<◌, ◌+◌, ◌^◌, List, [], ◌∷◌, ◌++◌, length, take, All, flat_map}
+-- its parts, a chunk, a file of chunks.
+use Rattle.std.specs.Prelude.{◌≡◌, ℕ, ◌<◌, ◌^◌, List, [], ◌∷◌, ◌++◌, length, take, All, flat_map}
 use Rattle.am_leb.specs.Leb.{uleb}
 use Rattle.sha2.specs.Sha256.{sha256}
 
@@ -20,9 +20,13 @@ covered kind contents = kind ∷ sized contents
 abbrev pub frame_with : List ℕ → ℕ → List ℕ → List ℕ
 frame_with checksum kind contents = magic ++ checksum ++ covered kind contents
 
--- a frame with its right checksum, the first four bytes of the hash
+-- the right checksum, the first four bytes of the hash
+abbrev pub check_of : ℕ → List ℕ → List ℕ
+check_of kind contents = take 4 (sha256 (covered kind contents))
+
+-- a frame with its right checksum
 abbrev pub framed : ℕ → List ℕ → List ℕ
-framed kind contents = frame_with (take 4 (sha256 (covered kind contents))) kind contents
+framed kind contents = frame_with (check_of kind contents) kind contents
 
 pub record Chunk : Type 0 where
   pub kind : ℕ
@@ -44,21 +48,7 @@ pub record IsCut (bytes checksum : List ℕ) (kind : ℕ) (contents rest : List 
   pub within : length contents < 2 ^ 64
   pub bytes_are : bytes ≡ frame_with checksum kind contents ++ rest
 
--- the bytes begin with no chunk
-abbrev pub BeginsNoChunk : List ℕ → Type 0
-BeginsNoChunk bytes = (chunk : Chunk) (rest : List ℕ) → IsChunk chunk → bytes ≡ chunk_bytes chunk ++ rest → ⊥
-
 -- the bytes are these chunks, one after another
 pub record IsFile (bytes : List ℕ) (chunks : List Chunk) : Type 0 where
   pub bytes_are : bytes ≡ flat_map chunk_bytes chunks
   pub each : All IsChunk chunks
-
--- chunks, and then bytes that begin with none; counted from 1, that is number k
-pub record FirstBad (bytes : List ℕ) (k : ℕ) : Type 0 where
-  pub before : List Chunk
-  pub rest : List ℕ
-  pub bytes_are : bytes ≡ flat_map chunk_bytes before ++ rest
-  pub each : All IsChunk before
-  pub more : 0 < length rest
-  pub bad : BeginsNoChunk rest
-  pub number : k ≡ length before + 1

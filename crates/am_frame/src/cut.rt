@@ -1,8 +1,10 @@
 //! A frame cut into its parts, whatever its checksum and its type.
-ghost use Rattle.std.specs.Prelude.{◌≡◌, ◌<◌, ◌^◌, ◌++◌, ℕ, List, length, IfSome, IsSomeAnd};
-ghost use Rattle.am_frame.specs.Frames.{sized, covered, IsCut};
+ghost use Rattle.std.specs.Prelude.{◌≡◌, ◌<◌, ◌^◌, ◌++◌, length, IfOk, IsErrOf};
+ghost use Rattle.am_frame.specs.Frames.{sized};
+ghost use Rattle.am_frame.specs.Faults.{BeginsNoNumber};
+ghost use Rattle.am_frame.specs.Heads.{IsShort, JudgesHead};
 
-use am_leb::{one_spelling, read_u};
+use am_leb::{LebFault, completed, one_spelling, read_u};
 
 /// The four bytes with which each chunk begins.
 pub const MAGIC: [u8; 4] = [0x85, 0x6f, 0x4a, 0x83];
@@ -18,45 +20,73 @@ pub struct Cut<'a> {
     pub rest: &'a [u8],
 }
 
+// Why no frame could be cut off.
+#[derive(Clone, Copy, Debug, PartialEq, Eq)]
+pub enum HeadFault {
+    BadMagic,
+    Truncated,
+    BadLength,
+}
+
+// Why no bytes stand behind their length.
+#[derive(Clone, Copy, Debug, PartialEq, Eq)]
+enum SizeFault {
+    Short,
+    Bad,
+}
+
 // The length that stands first, the bytes of that length behind it, and what follows them. The number is how many
 // bytes the length and these bytes take together.
-fn cut_sized(bytes: &[u8]) -> Option<(usize, &[u8], &[u8])>
-    ensures some { IfSome result (λ cut. (bytes.now ≡ sized cut.1.now ++ cut.2.now) × (cut.0 ≡ length (sized cut.1.now)) × (length cut.1.now < 2 ^ 64)) }
-    ensures only { (contents rest : List ℕ) → length contents < 2 ^ 64 → bytes.now ≡ sized contents ++ rest → IsSomeAnd result (λ cut. (cut.1.now ≡ contents) × (cut.2.now ≡ rest)) }
+fn sized_at(bytes: &[u8]) -> Result<(usize, &[u8], &[u8]), SizeFault>
+    ensures found { IfOk result (λ cut. (bytes.now ≡ sized cut.1.now ++ cut.2.now) × (cut.0 ≡ length (sized cut.1.now)) × (length cut.1.now < 2 ^ 64)) }
+    ensures short { IsErrOf result SizeFault.Short → IsShort bytes.now }
+    ensures bad { IsErrOf result SizeFault.Bad → BeginsNoNumber bytes.now }
 {
     one_spelling();
-    let Ok((count, size)) = read_u(bytes) else {
-        return None;
+    completed();
+    let (count, size) = match read_u(bytes) {
+        Ok(found) => found,
+        Err(LebFault::Short) => return Err(SizeFault::Short),
+        Err(LebFault::Long) => return Err(SizeFault::Bad),
+        Err(LebFault::Large) => return Err(SizeFault::Bad),
     };
     let (_, body) = bytes.split_at(size);
     if count > body.len() as u64 {
-        return None;
+        return Err(SizeFault::Short);
     }
     let (contents, rest) = body.split_at(count as usize);
-    Some((size + contents.len(), contents, rest))
+    Ok((size + contents.len(), contents, rest))
 }
 
 // Cuts the first frame off.
-pub fn cut_frame(bytes: &[u8]) -> Option<Cut<'_>>
-    ensures some { IfSome result (λ cut. IsCut bytes.now cut.checksum.now cut.kind cut.contents.now cut.rest.now × (cut.covered.now ≡ covered cut.kind cut.contents.now)) }
-    ensures only { (checksum : List ℕ) (kind : ℕ) (contents rest : List ℕ) → IsCut bytes.now checksum kind contents rest
-        → IsSomeAnd result (λ cut. (cut.checksum.now ≡ checksum) × (cut.kind ≡ kind) × (cut.contents.now ≡ contents) × (cut.rest.now ≡ rest)) }
+#[tactic(auto, using(crate::proofs::HeadLaws::no_front, crate::proofs::HeadLaws::short_magic, crate::proofs::HeadLaws::no_magic, crate::proofs::HeadLaws::short_head, crate::proofs::HeadLaws::short_body, crate::proofs::HeadLaws::bad_length))]
+pub fn cut_frame(bytes: &[u8]) -> Result<Cut<'_>, HeadFault>
+    ensures { JudgesHead bytes.now result }
 {
-    if bytes.len() < 9 {
-        return None;
+    if bytes.len() < 4 {
+        let (front, _) = MAGIC.split_at(bytes.len());
+        if bytes != front {
+            return Err(HeadFault::BadMagic);
+        }
+        return Err(HeadFault::Truncated);
     }
     let (magic, head) = bytes.split_at(4);
     if magic != &MAGIC[..] {
-        return None;
+        return Err(HeadFault::BadMagic);
+    }
+    if head.len() < 5 {
+        return Err(HeadFault::Truncated);
     }
     let (checksum, body) = head.split_at(4);
     let kind = body[0];
     let (_, behind) = body.split_at(1);
-    let Some((size, contents, rest)) = cut_sized(behind) else {
-        return None;
+    let (size, contents, rest) = match sized_at(behind) {
+        Ok(found) => found,
+        Err(SizeFault::Short) => return Err(HeadFault::Truncated),
+        Err(SizeFault::Bad) => return Err(HeadFault::BadLength),
     };
     let (covered, _) = body.split_at(1 + size);
-    Some(Cut {
+    Ok(Cut {
         checksum,
         kind,
         covered,

@@ -1,12 +1,14 @@
 //! The first chunk of a file.
 ghost use Rattle.std.specs.Prelude.{◌≡◌, ◌<◌, ◌++◌, ◌↔◌, ℕ, List, length, IfOk, IsOkAnd, IsErrOf};
 ghost use Rattle.sha2.specs.Sha256.{sha256};
-ghost use Rattle.am_frame.specs.Frames.{covered, Chunk, IsChunk, chunk_of, chunk_bytes, BeginsNoChunk};
+ghost use Rattle.am_frame.specs.Frames.{covered, Chunk, IsChunk, chunk_of, chunk_bytes};
+ghost use Rattle.am_frame.specs.Faults.{HasFault};
+ghost use Rattle.am_frame.specs.Judged.{Judges};
 
-use crate::cut::cut_frame;
+use crate::cut::{HeadFault, cut_frame};
 use crate::digest::hash_of;
+use crate::fault::FrameFault;
 use am_types::Hash;
-use thiserror::Error;
 
 /// The first chunk of a file, and what follows it. Nothing is copied.
 #[derive(Drop)]
@@ -21,39 +23,31 @@ pub struct Frame<'a> {
     pub rest: &'a [u8],
 }
 
-/// Why no chunk stands first.
-#[derive(Clone, Copy, Debug, PartialEq, Eq, Error)]
-pub enum FrameFault {
-    /// The bytes begin with no document chunk and no change chunk that is whole and has its right checksum.
-    #[error("no chunk begins here")]
-    BadFrame,
-}
-
-fn frame_at(bytes: &[u8]) -> Result<Frame<'_>, FrameFault>
-    ensures frame { IfOk result (λ frame. IsChunk (chunk_of frame.kind frame.contents.now) × (bytes.now ≡ chunk_bytes (chunk_of frame.kind frame.contents.now) ++ frame.rest.now)
-        × (frame.hash.0 ≡ sha256 (covered frame.kind frame.contents.now))) }
-    ensures shorter { IfOk result (λ frame. length frame.rest.now < length bytes.now) }
-    ensures only { (chunk : Chunk) (rest : List ℕ) → IsChunk chunk → bytes.now ≡ chunk_bytes chunk ++ rest
-        → IsOkAnd result (λ frame. (frame.kind ≡ chunk.kind) × (frame.contents.now ≡ chunk.contents) × (frame.rest.now ≡ rest)) }
+fn judge(bytes: &[u8]) -> Result<Frame<'_>, FrameFault>
+    ensures { Judges bytes.now result }
 {
-    let Some(cut) = cut_frame(bytes) else {
-        return Err(FrameFault::BadFrame);
+    let cut = match cut_frame(bytes) {
+        Ok(cut) => cut,
+        Err(HeadFault::BadMagic) => return Err(FrameFault::BadMagic),
+        Err(HeadFault::Truncated) => return Err(FrameFault::Truncated),
+        Err(HeadFault::BadLength) => return Err(FrameFault::BadLength),
     };
     let hash = hash_of(cut.covered);
     let Hash(digest) = hash;
     let (first, _) = digest.split_at(4);
     if first != cut.checksum {
-        return Err(FrameFault::BadFrame);
+        return Err(FrameFault::BadChecksum);
     }
-    if cut.kind > 1 {
-        return Err(FrameFault::BadFrame);
+    match cut.kind {
+        0 | 1 => Ok(Frame {
+            kind: cut.kind,
+            hash,
+            contents: cut.contents,
+            rest: cut.rest,
+        }),
+        2 => Err(FrameFault::CompressedChunk),
+        kind => Err(FrameFault::ChunkType(kind)),
     }
-    Ok(Frame {
-        kind: cut.kind,
-        hash,
-        contents: cut.contents,
-        rest: cut.rest,
-    })
 }
 
 /// The first chunk of these bytes, by the frame of the Automerge Binary Document Format: magic, checksum, type,
@@ -63,8 +57,9 @@ pub fn next_frame(bytes: &[u8]) -> Result<Frame<'_>, FrameFault>
         × (frame.hash.0 ≡ sha256 (covered frame.kind frame.contents.now))) }
     ensures only { (chunk : Chunk) (rest : List ℕ) → IsChunk chunk → bytes.now ≡ chunk_bytes chunk ++ rest
         → IsOkAnd result (λ frame. (frame.kind ≡ chunk.kind) × (frame.contents.now ≡ chunk.contents) × (frame.rest.now ≡ rest)) }
-    ensures bad { IsErrOf result FrameFault.BadFrame ↔ BeginsNoChunk bytes.now }
+    // Each fault is answered exactly where it applies.
+    ensures fault { (fault : FrameFault) → IsErrOf result fault ↔ HasFault bytes.now fault }
     ensures shorter { IfOk result (λ frame. length frame.rest.now < length bytes.now) }
 {
-    frame_at(bytes)
+    judge(bytes)
 }

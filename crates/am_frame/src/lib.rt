@@ -4,12 +4,14 @@
 mod cut;
 mod digest;
 mod encode;
+mod fault;
 mod frame;
 mod laws;
 
 pub use encode::framed;
-pub use frame::{Frame, FrameFault, next_frame};
-pub use laws::one_reading;
+pub use fault::FrameFault;
+pub use frame::{Frame, next_frame};
+pub use laws::{one_fault, one_reading};
 
 #[cfg(test)]
 mod tests;

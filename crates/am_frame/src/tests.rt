@@ -30,19 +30,48 @@ fn reads_and_writes_chunks(rt: HostRuntime) -> Result<(), Fail> {
 }
 
 #[test]
-fn refuses_what_is_no_chunk(rt: HostRuntime) -> Result<(), Fail> {
-    // The place of a byte and what stands there instead: magic, checksum, type, length.
-    let table: [(usize, u8); 5] = [(0, 0x84), (4, 0xd8), (8, 0x02), (8, 0x07), (9, 0x21)];
-    for (place, byte) in table {
-        let mut bytes = FILE.to_vec(rt.alloc())?;
-        if place < bytes.len() {
-            bytes[place] = byte;
-        }
-        assert!(rt;
-            matches!(next_frame(&bytes), Err(FrameFault::BadFrame)),
-            "at {place}"
-        );
+fn names_what_is_wrong_with_a_chunk(rt: HostRuntime) -> Result<(), Fail> {
+    // What stands in place of magic, checksum, type and length of the change, and the fault.
+    let table: [(&[u8], FrameFault); 8] = [
+        (
+            b"\x84\x6f\x4a\x83\xd8\x9a\xa0\x4d\x01\x20",
+            FrameFault::BadMagic,
+        ),
+        (
+            b"\x85\x6f\x4a\x83\xd9\x9a\xa0\x4d\x01\xff\x7f",
+            FrameFault::Truncated,
+        ),
+        (
+            b"\x85\x6f\x4a\x83\xd9\x9a\xa0\x4d\x01\xa0\x00",
+            FrameFault::BadLength,
+        ),
+        (
+            b"\x85\x6f\x4a\x83\xd8\x9a\xa0\x4d\x01\x20",
+            FrameFault::BadChecksum,
+        ),
+        (
+            b"\x85\x6f\x4a\x83\xd9\x9a\xa0\x4d\x02\x20",
+            FrameFault::BadChecksum,
+        ),
+        (
+            b"\x85\x6f\x4a\x83\x51\x13\xf8\xe0\x07\x20",
+            FrameFault::ChunkType(7),
+        ),
+        (
+            b"\x85\x6f\x4a\x83\x44\x1c\xda\x16\x02\x20",
+            FrameFault::CompressedChunk,
+        ),
+        (
+            b"\x85\x6f\x4a\x83\x44\x1c\xda\x16\x07\x20",
+            FrameFault::BadChecksum,
+        ),
+    ];
+    for (head, fault) in table {
+        let mut bytes = head.to_vec(rt.alloc())?;
+        bytes.extend_from_slice(&FILE[10..])?;
+        assert_eq!(rt; next_frame(&bytes).err(), Some(fault), "at {head:?}");
     }
-    assert!(rt; matches!(next_frame(&[]), Err(FrameFault::BadFrame)));
+    assert_eq!(rt; next_frame(&[]).err(), Some(FrameFault::Truncated));
+    assert_eq!(rt; next_frame(&FILE[..41]).err(), Some(FrameFault::Truncated));
     Ok(())
 }

@@ -1,17 +1,19 @@
 -- A look-up by hash finds the member with that hash.
-use Rattle.std.proofs.Common.{ℕ, suc, ◌≡◌, ◌+◌, ◌-◌, List, [], ◌∷◌, get_or, Bool, true, false, Option, Some, None, option_map, refl, sym, ap, ◌∙◌, subst, inl, inr, All}
+use Rattle.std.proofs.Common.{ℕ, suc, ◌≡◌, ◌+◌, ◌-◌, List, [], ◌∷◌, get_or, filter, ◌&&◌, ◌==◌, Bool, true, false, Option, Some, None, option_map, refl, sym, ap, ◌∙◌, subst, inl, inr, All}
 use Rattle.std.specs.List.{position}
 use Rattle.std.specs.Map.{lookup, keys_of}
 use Rattle.std.proofs.lemmas.Bool.{cases_Bool}
+use Rattle.std.proofs.lemmas.Cmp.{nat_list_eq_equiv}
 use Rattle.std.proofs.lemmas.List.Elements.{All-head, All-tail}
 use Rattle.std.proofs.lemmas.Map.Text.{is_eq-slice_cmp}
 use Rattle.am_types.specs.contracts.hash.HashPartialEq.TheImpl as equality
 use Rattle.am_types.specs.declared.Hash.{Hash}
-use Rattle.am_types.specs.Members.{Member, member}
+use Rattle.am_types.specs.Members.{Member, hashes, member}
 use Rattle.am_types.specs.Operations.{max}
-use Rattle.am_types.specs.Same.{same_hash}
+use Rattle.am_types.specs.Same.{same_bytes, same_hash}
+use Rattle.am_types.specs.Verdicts.{has_seq}
 use Rattle.am_graph.specs.declared.node.Node.{Node}
-use Rattle.am_graph.specs.Graphs.{node_of, nodes}
+use Rattle.am_graph.specs.Graphs.{node_of, nodes, ForSet, IsLeast, having}
 use Rattle.am_graph.proofs.Naming.{place, place_is}
 use Rattle.am_graph.proofs.Visiting.{no_member}
 
@@ -64,3 +66,18 @@ member_at C h = go C ∙ ap (option_map (λ i. get_or C i no_member)) (sym (plac
           | inl e ↦ let f : equality.eq-value.it h m.hash ≡ true = sym both ∙ e in simp (e, f) refl
           | inr e ↦ let f : equality.eq-value.it h m.hash ≡ false = sym both ∙ e in simp (e, f) (again ∙ shift m C (place (equality.eq-value.it h) (keys_of (nodes C))))
         ]
+
+-- ---- the changes with an actor and a seq
+
+having-nodes : (C : List Member) (x : List ℕ) (q : ℕ) → having (nodes C) x q ≡ hashes (filter (has_seq x q) C)
+having-nodes [] x q = refl
+having-nodes (m ∷ C) x q =
+    let again : having (nodes C) x q ≡ hashes (filter (has_seq x q) C) = having-nodes C x q in
+    let turned : has_seq x q m ≡ (same_bytes x m.change.actor && m.change.seq == q) = ap (λ b. b && m.change.seq == q) (nat_list_eq_equiv.symm m.change.actor x) in
+    elim (cases_Bool (same_bytes x m.change.actor && m.change.seq == q)) [
+      | inl e ↦ let f : has_seq x q m ≡ true = turned ∙ e in simp (e, f) (ap (λ l. m.hash ∷ l) again)
+      | inr e ↦ let f : has_seq x q m ≡ false = turned ∙ e in simp (e, f) again
+    ]
+
+pub least_of_set : (g : List (Hash × Node)) (o : Option Hash) (x : List ℕ) (q : ℕ) → IsLeast o (having g x q) → ForSet g (λ C. IsLeast o (hashes (filter (has_seq x q) C)))
+least_of_set g o x q l C e = subst (IsLeast o) (ap (λ g. having g x q) e ∙ having-nodes C x q) l

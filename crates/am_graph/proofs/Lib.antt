@@ -1,11 +1,13 @@
 pub mod Joining
 pub mod Clocking
+pub mod Copying
 pub mod Covered
 pub mod Depths
 pub mod Noting
 pub mod Deepest
 pub mod Growing
 pub mod Naming
+pub mod Ranking
 pub mod Descent
 pub mod Finding
 pub mod Found

@@ -3,3 +3,4 @@ pub mod Reaches
 pub mod Clocks
 pub mod Whole
 pub mod Walks
+pub mod Ranks

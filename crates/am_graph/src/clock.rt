@@ -82,14 +82,14 @@ impl Graph {
 impl Clock {
     /// Whether the actor of the id has a change, and the counter is at most the greatest of its changes' last counters.
     pub fn covers(&self, id: IdRef<'_>) -> bool
-        ensures { result ≡ covers self.now (id_of id.entry) }
+        ensures clock { result ≡ covers self.now (id_of id.entry) }
     {
         id.counter < reach_of(&self.authors, self.table.as_slice(), id.actor).end
     }
 
     /// The greatest seq of the actor's changes, or 0 where there is none.
     pub fn last_seq(&self, actor: &[u8]) -> u64
-        ensures { result ≡ (reach_of self.now actor.now).seq }
+        ensures clock { result ≡ (reach_of self.now actor.now).seq }
     {
         reach_of(&self.authors, self.table.as_slice(), actor).seq
     }
@@ -98,14 +98,14 @@ impl Clock {
 impl<'a> Reached<'a> {
     /// Whether the actor of the id has a change, and the counter is at most the greatest of its changes' last counters.
     pub fn covers(&self, id: IdRef<'_>) -> bool
-        ensures { result ≡ covers self.now (id_of id.entry) }
+        ensures clock { result ≡ covers self.now (id_of id.entry) }
     {
         id.counter < reach_of(self.authors, self.table.as_slice(), id.actor).end
     }
 
     /// The greatest seq of the actor's changes, or 0 where there is none.
     pub fn last_seq(&self, actor: &[u8]) -> u64
-        ensures { result ≡ (reach_of self.now actor.now).seq }
+        ensures clock { result ≡ (reach_of self.now actor.now).seq }
     {
         reach_of(self.authors, self.table.as_slice(), actor).seq
     }

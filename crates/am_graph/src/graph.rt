@@ -36,7 +36,7 @@ impl Model for Graph {
 impl Graph {
     /// A graph of no changes.
     pub fn new(alloc: Global) -> Self
-        ensures { result ≡ [] }
+        ensures empty { result ≡ [] }
     {
         Graph {
             parts: Parts::new(alloc),
@@ -78,7 +78,7 @@ impl Graph {
             return Err(GraphFault::MissingDep(dep));
         }
         let actor = actor.copy(alloc)?;
-        let deps = listed(alloc, deps)?;
+        let deps = List::from(Vec::from_slice(alloc, deps)?);
         let node = Node {
             actor,
             seq,
@@ -137,7 +137,7 @@ impl Graph {
 
     /// The hashes that no change has as a dependency, ascending.
     pub fn heads(&self, alloc: Global) -> Result<List<Hash>, AllocError>
-        ensures { IfOk result (λ found. ForSet self.now (λ C. found ≡ heads_of C)) }
+        ensures set { IfOk result (λ found. ForSet self.now (λ C. found ≡ heads_of C)) }
     {
         let named = self.named(alloc)?;
         let mut found: Vec<Hash> = Vec::new(alloc);
@@ -147,7 +147,7 @@ impl Graph {
             pick(&mut found, *hash, is_head)?;
         }
         found.sort_unstable();
-        Ok(listed(alloc, found.as_slice())?)
+        Ok(List::from(found))
     }
 
     /// The hashes that a change has as a dependency.
@@ -178,7 +178,7 @@ impl Graph {
             pick(&mut found, *hash, is_wanted)?;
         }
         found.sort_unstable();
-        Ok(listed(alloc, found.as_slice())?)
+        Ok(List::from(found))
     }
 
     /// The hashes of the ancestors.
@@ -221,16 +221,6 @@ fn pick(found: &mut Vec<Hash>, hash: Hash, is_picked: bool) -> Result<(), AllocE
         found.push(hash)?;
     }
     Ok(())
-}
-
-fn listed(alloc: Global, hashes: &[Hash]) -> Result<List<Hash>, AllocError>
-    ensures { IfOk result (λ list. list ≡ hashes.now) }
-{
-    let mut list = List::new(alloc);
-    for hash in hashes {
-        list.push(*hash)?;
-    }
-    Ok(list)
 }
 
 /// What is answered to a change where this one is held with its hash.

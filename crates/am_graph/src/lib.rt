@@ -1,13 +1,18 @@
 //! The graph of a set of changes: its heads, ancestors, clocks and canonical order.
 #![tactic(auto)]
 
+mod canonical;
 mod clock;
+mod copy;
 mod fault;
 mod find;
 mod graph;
 mod node;
 mod parts;
+mod place;
 mod reach;
+#[cfg(test)]
+mod tests;
 mod walk;
 
 pub use clock::{Clock, Reached, covers_ancestors_alone};

@@ -1,5 +1,6 @@
 //! What the graph keeps of a change.
-use am_types::{ActorId, Hash, List};
+use am_types::{ActorId, Hash, List, Twin};
+use std::alloc::{AllocError, Global};
 
 /// A change without its operations.
 #[derive(Debug, Drop)]
@@ -14,4 +15,18 @@ pub struct Node {
     pub count: u64,
     /// The hashes of the changes that it depends on, ascending.
     pub deps: List<Hash>,
+}
+
+impl Twin for Node {
+    fn copy(&self, alloc: Global) -> Result<Node, AllocError> {
+        let actor = self.actor.copy(alloc)?;
+        let deps = self.deps.copy(alloc)?;
+        Ok(Node {
+            actor,
+            seq: self.seq,
+            start: self.start,
+            count: self.count,
+            deps,
+        })
+    }
 }

@@ -19,7 +19,7 @@ use std::collections::BTreeMap;
 const STEP: u64 = 16;
 
 /// What is kept beside a change.
-#[derive(Drop)]
+#[derive(Clone, Drop)]
 pub(crate) struct Mark {
     /// The number of its author.
     pub author: usize,

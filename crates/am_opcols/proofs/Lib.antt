@@ -5,3 +5,7 @@ pub mod WriteLaws
 pub mod OtherLaws
 pub mod CanonicalLaws
 pub mod AboveLaws
+pub mod Named
+pub mod Spelled
+pub mod WrittenOps
+pub mod NamedAlone

@@ -8,12 +8,14 @@ mod laws;
 mod op;
 mod others;
 mod places;
+#[cfg(test)]
+mod tests;
 mod write;
 mod writer;
 
 pub use am_fields::IdCursor as PredCursor;
 pub use cursor::OpCursor;
 pub use fault::BadOps;
-pub use laws::one_list;
+pub use laws::{canonical_columns_spell, one_list, others_are_named};
 pub use op::OpRef;
 pub use write::{OpsText, write_ops};

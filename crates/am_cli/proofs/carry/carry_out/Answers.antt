@@ -1,7 +1,7 @@
 use Rattle.std.proofs.Common.{◌≡◌, ◌<◌, ◌&&◌, ◌∙◌, ap, sym, [], ◌∷◌, ◌++◌, length, drop, ◌+◌, arith, rules}
 use Rattle.std.proofs.lemmas.Result.{err_from_is_err_and}
 use Rattle.std.specs.Io.KnownBytes.{append_known}
-use Rattle.am_cli.specs.Machine.{is_refused}
+use Rattle.am_cli.specs.Replies.{is_refused}
 use Rattle.am_cli.proofs.Steps.{carried-more, any-more, drop_next, goes_on, stops_here, one_absent}
 use Rattle.am_cli.proofs.Stops.{stopped-command, stopped-reply}
 use Rattle.am_cli.proofs.carry.carry_out.Goals as goal
@@ -25,7 +25,7 @@ returns-in_err-write_whole-clause-stopped g c =
     let asked = c.args.asked.now in
     let one = c.one-item.result in
     let lt : i < length asked = omega arith in
-    let same : c.as_bytes.result.now ≡ c.in_ok-reply.reply = search rules in
+    let same : c.as_slice.result.now ≡ c.in_ok-reply.reply = search rules in
     let next : drop i asked ≡ one ∷ drop (i + 1) asked = drop_next asked i one lt ∙ ap (λ o. o ∷ drop (i + 1) asked) (sym c.one-item.is) in
     rw p.1 (stopped-reply _ asked so_far.0 _ _ _ _ _ _ _ _ _ one (drop i asked) _ c.in_ok-reply.reply c.write_whole.result c.in_err-write_whole.field-0.0 p.0 next c.in_err-write_whole.was p.2 so_far.1 c.in_ok-reply.ensures.step (one_absent c.in_ok-reply.reply _ _ c.in_ok-reply.ensures.absent c.answer.ensures.misses) (rw (← same) c.write_whole.ensures.cut))
 
@@ -37,7 +37,7 @@ returns-then-ends_at-clause-carried g c =
     let one = c.one-item.result in
     let reply = c.in_ok-reply.reply in
     let lt : i < length asked = omega arith in
-    let same : c.as_bytes.result.now ≡ reply = search rules in
+    let same : c.as_slice.result.now ≡ reply = search rules in
     let next : drop i asked ≡ one ∷ drop (i + 1) asked = drop_next asked i one lt ∙ ap (λ o. o ∷ drop (i + 1) asked) (sym c.one-item.is) in
     let wrote : g.O.Sink.written c.write_whole.new.out ≡ append_known (g.O.Sink.written c.loop-one.out) reply = c.in_ok-write_whole.ensures.whole ∙ ap (append_known (g.O.Sink.written c.loop-one.out)) same in
     let refuses : c.refuses-some_refused.result ≡ is_refused reply = search rules in
@@ -55,7 +55,7 @@ loop-one-preserved g c =
     let one = c.one-item.result in
     let reply = c.in_ok-reply.reply in
     let lt : i < length asked = omega arith in
-    let same : c.as_bytes.result.now ≡ reply = search rules in
+    let same : c.as_slice.result.now ≡ reply = search rules in
     let next : drop i asked ≡ one ∷ drop (i + 1) asked = drop_next asked i one lt ∙ ap (λ o. o ∷ drop (i + 1) asked) (sym c.one-item.is) in
     let wrote : g.O.Sink.written c.write_whole.new.out ≡ append_known (g.O.Sink.written c.loop-one.out) reply = c.in_ok-write_whole.ensures.whole ∙ ap (append_known (g.O.Sink.written c.loop-one.out)) same in
     let refuses : c.refuses-some_refused.result ≡ is_refused reply = search rules in

@@ -1,6 +1,11 @@
-use Rattle.std.proofs.Common.{rules}
-use Rattle.am_frame.proofs.Verdict.{refuses_exactly}
+use Rattle.am_frame.proofs.Verdict.{found, only, exact}
 use Rattle.am_frame.proofs.frame.next_frame.Goals as goal
 
-pub returns-clause-bad : goal.returns-clause-bad
-returns-clause-bad c = refuses_exactly c.args.bytes.now c.frame_at.result (search rules) c.frame_at.ensures.only
+pub returns-clause-frame : goal.returns-clause-frame
+returns-clause-frame c = found c.args.bytes.now c.judge.result c.judge.ensures
+
+pub returns-clause-only : goal.returns-clause-only
+returns-clause-only c = λ chunk rest is e. only c.args.bytes.now c.judge.result chunk rest c.judge.ensures is e
+
+pub returns-clause-fault : goal.returns-clause-fault
+returns-clause-fault c = λ fault. exact c.args.bytes.now c.judge.result fault c.judge.ensures

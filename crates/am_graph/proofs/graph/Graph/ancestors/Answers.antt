@@ -15,8 +15,8 @@ loop-i-preserved c =
 
 pub returns-clause-ok : goal.returns-clause-ok
 returns-clause-ok c =
-    subst (λ g. ForSet g (λ C. c.in_ok-listed.field-0 ≡ sorted_by hash_cmp (hashes (ancestors C c.args.heads.now)))) c.self.view_is
-    (subst (λ found. ForSet c.self.inside.parts.held.entries (λ C. found ≡ sorted_by hash_cmp (hashes (ancestors C c.args.heads.now)))) (sym c.as_slice.ensures.value ∙ sym c.in_ok-listed.ensures)
+    subst (λ g. ForSet g (λ C. c.from.result ≡ sorted_by hash_cmp (hashes (ancestors C c.args.heads.now)))) c.self.view_is
+    (subst (λ found. ForSet c.self.inside.parts.held.entries (λ C. found ≡ sorted_by hash_cmp (hashes (ancestors C c.args.heads.now)))) (sym c.from.ensures)
     (found_is c.self.inside.parts.held.entries c.args.heads.now (has c.in_ok-wanted.wanted) c.loop-i.found.items c.sort_unstable.new.self.items
     (subst (λ g. TellsAncestors g c.args.heads.now (has c.in_ok-wanted.wanted)) (sym c.self.view_is) c.in_ok-wanted.ensures.ok)
     (c.loop-i.invariant ∙ ap (wanted_among (has c.in_ok-wanted.wanted)) (take_all c.loop-i.i c.self.inside.parts.held.entries (let f = c.loop-i-test.false in let e = c.len-i-end.ensures.len in omega arith)))

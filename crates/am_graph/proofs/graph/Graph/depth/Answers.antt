@@ -11,18 +11,21 @@ use Rattle.am_graph.proofs.Waiting.{found_at}
 use Rattle.am_graph.proofs.graph.Graph.depth.Goals as goal
 
 pub returns-in_default : goal.returns-in_default
-returns-in_default c C e = sym (ap (option_map (λ m. depth C m.change)) (member_at C c.args.hash.now
-    ∙ ap (λ g. option_map (λ i. get_or C i no_member) (position (equality.eq-value.it c.args.hash.now) (keys_of g))) (sym (c.self.view_is ∙ e))
-    ∙ ap (option_map (λ i. get_or C i no_member)) (sym c.in_default.ensures.index)))
+returns-in_default c = record {
+  set = λ C e. (sym (ap (option_map (λ m. depth C m.change)) (member_at C c.args.hash.now
+      ∙ ap (λ g. option_map (λ i. get_or C i no_member) (position (equality.eq-value.it c.args.hash.now) (keys_of g))) (sym (c.self.view_is ∙ e))
+      ∙ ap (option_map (λ i. get_or C i no_member)) (sym c.in_default.ensures.index))));
+}
 
 pub returns : goal.returns
-returns c C e =
-    let s = c.self.inside.parts in
-    let is : s.held.entries ≡ nodes C = c.self.view_is ∙ e in
-    let f = found_at s.held.entries c.args.hash.now c.in-Some.place (sym c.in-Some.ensures.index) in
-    let l : c.in-Some.place < length s.held.entries = f.0 in
-    let n = length_nodes C in let z = ap length is in
-    sym (ap (option_map (λ m. depth C m.change)) (member_at C c.args.hash.now
-    ∙ ap (λ g. option_map (λ i. get_or C i no_member) (position (equality.eq-value.it c.args.hash.now) (keys_of g))) (sym is)
-    ∙ ap (option_map (λ i. get_or C i no_member)) (sym c.in-Some.ensures.index))
-    ∙ ap Some (sym (ap (λ m. m.depth) c.index.ensures ∙ c.self.invariant.depths C is c.in-Some.place c.index.result.now no_member (omega arith))))
+returns c = record {
+  set = λ C e. (let s = c.self.inside.parts in
+      let is : s.held.entries ≡ nodes C = c.self.view_is ∙ e in
+      let f = found_at s.held.entries c.args.hash.now c.in-Some.place (sym c.in-Some.ensures.index) in
+      let l : c.in-Some.place < length s.held.entries = f.0 in
+      let n = length_nodes C in let z = ap length is in
+      sym (ap (option_map (λ m. depth C m.change)) (member_at C c.args.hash.now
+      ∙ ap (λ g. option_map (λ i. get_or C i no_member) (position (equality.eq-value.it c.args.hash.now) (keys_of g))) (sym is)
+      ∙ ap (option_map (λ i. get_or C i no_member)) (sym c.in-Some.ensures.index))
+      ∙ ap Some (sym (ap (λ m. m.depth) c.index.ensures ∙ c.self.invariant.depths C is c.in-Some.place c.index.result.now no_member (omega arith)))));
+}

@@ -13,10 +13,11 @@ loop-i-preserved c =
     ∙ sym (wanted_push (λ h. not (has c.in_ok-named.named h)) c.self.inside.parts.held.entries c.loop-i.i (c.unwrap.result.0.now, c.unwrap.result.1.now) (sym c.get_index.ensures.entry ∙ ap (option_map deref_pair) c.unwrap.ensures))
 
 pub returns : goal.returns
-returns c =
-    subst (λ g. ForSet g (λ C. c.in_ok-listed.field-0 ≡ heads C)) c.self.view_is
-    (subst (λ found. ForSet c.self.inside.parts.held.entries (λ C. found ≡ heads C)) (sym c.as_slice.ensures.value ∙ sym c.in_ok-listed.ensures)
-    (heads_are c.self.inside.parts.held.entries (has c.in_ok-named.named) c.loop-i.found.items c.sort_unstable.new.self.items
-    (λ h. c.in_ok-named.ensures h ∙ ap (λ g. is_named_in g h) (sym c.self.view_is))
-    (c.loop-i.invariant ∙ ap (wanted_among (λ h. not (has c.in_ok-named.named h))) (take_all c.loop-i.i c.self.inside.parts.held.entries (let f = c.loop-i-test.false in let e = c.len-i-end.ensures.len in omega arith)))
-    c.sort_unstable.ensures.permutation c.sort_unstable.ensures.sorted))
+returns c = record {
+  set = (subst (λ g. ForSet g (λ C. c.from.result ≡ heads C)) c.self.view_is
+      (subst (λ found. ForSet c.self.inside.parts.held.entries (λ C. found ≡ heads C)) (sym c.from.ensures)
+      (heads_are c.self.inside.parts.held.entries (has c.in_ok-named.named) c.loop-i.found.items c.sort_unstable.new.self.items
+      (λ h. c.in_ok-named.ensures h ∙ ap (λ g. is_named_in g h) (sym c.self.view_is))
+      (c.loop-i.invariant ∙ ap (wanted_among (λ h. not (has c.in_ok-named.named h))) (take_all c.loop-i.i c.self.inside.parts.held.entries (let f = c.loop-i-test.false in let e = c.len-i-end.ensures.len in omega arith)))
+      c.sort_unstable.ensures.permutation c.sort_unstable.ensures.sorted)));
+}

@@ -5,7 +5,7 @@ use Rattle.am_graph.proofs.Finding.{lookup-nodes, lookup_all, max-member}
 use Rattle.am_graph.proofs.graph.Graph.max_of.Goals as goal
 
 pub returns-in_default : goal.returns-in_default
-returns-in_default c C e = max-member C c.args.hash.now None (sym (lookup-nodes C c.args.hash.now) ∙ ap (lookup (equality.eq-value.it c.args.hash.now)) (sym (c.self.view_is ∙ e)) ∙ sym c.in_default.ensures.value)
+returns-in_default c = record { set = λ C e. (max-member C c.args.hash.now None (sym (lookup-nodes C c.args.hash.now) ∙ ap (lookup (equality.eq-value.it c.args.hash.now)) (sym (c.self.view_is ∙ e)) ∙ sym c.in_default.ensures.value)) }
 
 pub overflow_add-result : goal.overflow_add-result
 overflow_add-result c =
@@ -16,4 +16,4 @@ overflow_sub-result c =
     let low : 1 ≤ c.in-Some.node.now.start = lookup_all (λ n. 1 ≤ n.start) (equality.eq-value.it c.args.hash.now) c.self.inside.parts.held.entries c.in-Some.node.now c.self.invariant.sound.starts (sym c.in-Some.ensures.value) in omega arith
 
 pub returns : goal.returns
-returns c C e = max-member C c.args.hash.now (Some c.in-Some.node.now) (sym (lookup-nodes C c.args.hash.now) ∙ ap (lookup (equality.eq-value.it c.args.hash.now)) (sym (c.self.view_is ∙ e)) ∙ sym c.in-Some.ensures.value)
+returns c = record { set = λ C e. (max-member C c.args.hash.now (Some c.in-Some.node.now) (sym (lookup-nodes C c.args.hash.now) ∙ ap (lookup (equality.eq-value.it c.args.hash.now)) (sym (c.self.view_is ∙ e)) ∙ sym c.in-Some.ensures.value)) }

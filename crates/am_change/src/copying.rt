@@ -1,0 +1,162 @@
+//! Copying what is lent from the bytes of a change.
+ghost use Rattle.std.specs.Prelude.{◌≡◌, ◌≤◌, ◌*◌, length, option_map, IfOk};
+ghost use Rattle.std.specs.List.{AllByRecursion};
+ghost use Rattle.am_types.specs.Views.{id_of, object_of, key_of, value_of};
+ghost use Rattle.am_fields.specs.Limits.{IsWithin, IsObjectWithin, IsKeyWithin};
+ghost use Rattle.am_opcols.specs.Rows.{op_of};
+ghost use Rattle.am_change.specs.Building.{hash_with, hashes_in, IsOpWithin};
+
+use am_opcols::{OpCursor, OpRef, PredCursor};
+use am_types::{
+    ActorFault, ActorId, Bytes, Hash, IdRef, Key, KeyRef, List, ObjId, ObjRef, Op, OpId, RawValue,
+    Text, ValueRef,
+};
+use std::alloc::{AllocError, Global};
+
+// The bytes, owned.
+pub fn bytes_in(alloc: Global, bytes: &[u8]) -> Result<Bytes, AllocError>
+    ensures { IfOk result (λ copy. copy ≡ bytes.now) }
+{
+    let mut copy = Bytes::new(alloc);
+    copy.push_slice(bytes)?;
+    Ok(copy)
+}
+
+// The text, owned.
+pub fn text_in(alloc: Global, text: &str) -> Result<Text, AllocError>
+    ensures { IfOk result (λ copy. copy ≡ text.now) }
+{
+    let mut copy = Text::new(alloc);
+    copy.push_str(text)?;
+    Ok(copy)
+}
+
+// The actor, owned.
+pub fn actor_in(alloc: Global, bytes: &[u8]) -> Result<ActorId, AllocError>
+    requires some { 1 ≤ length bytes.now }
+    requires few { length bytes.now ≤ 1024 }
+    ensures { IfOk result (λ actor. actor ≡ bytes.now) }
+{
+    match ActorId::of(alloc, bytes) {
+        Ok(actor) => Ok(actor),
+        Err(ActorFault::NoMemory) => Err(AllocError),
+        Err(ActorFault::Length) => unreachable!(),
+    }
+}
+
+// The hash of these bytes.
+fn hash_in(bytes: &[u8]) -> Hash
+    requires { length bytes.now ≡ 32 }
+    ensures { result ≡ hash_with bytes.now }
+{
+    let mut hash = [0u8; 32];
+    hash.copy_from_slice(bytes);
+    Hash(hash)
+}
+
+// The hashes that stand one after another, owned.
+pub fn hashes_of(alloc: Global, bytes: &[u8], count: u64) -> Result<List<Hash>, AllocError>
+    requires { length bytes.now ≡ 32 * count }
+    ensures { IfOk result (λ hashes. hashes ≡ hashes_in count bytes.now) }
+{
+    let mut hashes = List::new(alloc);
+    let mut rest = bytes;
+    let mut left = count;
+    while left > 0 {
+        let (first, more) = rest.split_at(32);
+        hashes.push(hash_in(first))?;
+        rest = more;
+        left -= 1;
+    }
+    Ok(hashes)
+}
+
+fn id_in(alloc: Global, id: IdRef<'_>) -> Result<OpId, AllocError>
+    requires { IsWithin (id_of id) }
+    ensures { IfOk result (λ copy. copy ≡ id_of id.entry) }
+{
+    Ok(OpId {
+        counter: id.counter,
+        actor: actor_in(alloc, id.actor)?,
+    })
+}
+
+fn object_in(alloc: Global, object: ObjRef<'_>) -> Result<ObjId, AllocError>
+    requires { IsObjectWithin (object_of object) }
+    ensures { IfOk result (λ copy. copy ≡ object_of object.entry) }
+{
+    match object {
+        ObjRef::Root => Ok(ObjId::Root),
+        ObjRef::Made(id) => Ok(ObjId::Made(id_in(alloc, id)?)),
+    }
+}
+
+fn key_in(alloc: Global, key: KeyRef<'_>) -> Result<Key, AllocError>
+    requires { IsKeyWithin (key_of key) }
+    ensures { IfOk result (λ copy. copy ≡ key_of key.entry) }
+{
+    match key {
+        KeyRef::Name(name) => Ok(Key::Name(text_in(alloc, name)?)),
+        KeyRef::Head => Ok(Key::Head),
+        KeyRef::Elem(id) => Ok(Key::Elem(id_in(alloc, id)?)),
+    }
+}
+
+fn value_in(alloc: Global, value: ValueRef<'_>) -> Result<RawValue, AllocError>
+    ensures { IfOk result (λ copy. copy ≡ value_of value.entry) }
+{
+    Ok(RawValue {
+        kind: value.kind,
+        raw: bytes_in(alloc, value.raw)?,
+    })
+}
+
+fn mark_in(alloc: Global, mark: Option<&str>) -> Result<Option<Text>, AllocError>
+    ensures { IfOk result (λ copy. copy ≡ option_map (λ s. s.now) mark.entry) }
+{
+    match mark {
+        None => Ok(None),
+        Some(name) => Ok(Some(text_in(alloc, name)?)),
+    }
+}
+
+fn preds_in(alloc: Global, preds: PredCursor<'_>) -> Result<List<OpId>, AllocError>
+    requires { AllByRecursion IsWithin preds }
+    ensures { IfOk result (λ copy. copy ≡ preds.entry) }
+{
+    let mut copy = List::new(alloc);
+    let mut rest = preds;
+    while let Some(id) = rest.next() {
+        copy.push(id_in(alloc, id)?)?;
+    }
+    Ok(copy)
+}
+
+fn op_in(alloc: Global, op: OpRef<'_>) -> Result<Op, AllocError>
+    requires { IsOpWithin (op_of op) }
+    ensures { IfOk result (λ copy. copy ≡ op_of op.entry) }
+{
+    Ok(Op {
+        obj: object_in(alloc, op.obj)?,
+        key: key_in(alloc, op.key)?,
+        insert: op.insert,
+        action: op.action,
+        value: value_in(alloc, op.value)?,
+        preds: preds_in(alloc, op.preds)?,
+        expand: op.expand,
+        mark: mark_in(alloc, op.mark)?,
+    })
+}
+
+// The operations, owned.
+pub fn ops_in(alloc: Global, ops: OpCursor<'_>) -> Result<List<Op>, AllocError>
+    requires { AllByRecursion IsOpWithin ops }
+    ensures { IfOk result (λ copy. copy ≡ ops.entry) }
+{
+    let mut copy = List::new(alloc);
+    let mut rest = ops;
+    while let Some(op) = rest.next() {
+        copy.push(op_in(alloc, op)?)?;
+    }
+    Ok(copy)
+}

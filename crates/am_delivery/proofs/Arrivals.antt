@@ -1,0 +1,161 @@
+-- What a delivery adds to the map of the waiting changes.
+use Rattle.std.proofs.Common.{arith, length, get_or, All, ◌≡◌, List, [], ◌∷◌, ◌++◌, true, false, Option, Some, None, option_map, refl, sym, ap, ◌∙◌, subst, inl, inr, IsPermutation}
+use Rattle.std.specs.Option.{option_or}
+use Rattle.std.specs.BTreeMap.{BTreeMap, get, is_at, insert_entry}
+use Rattle.std.specs.Map.{lookup}
+use Rattle.std.specs.Ordering.{is_eq, match_ordering}
+use Rattle.std.specs.declared.cmp.Ordering.{Ordering}
+use Rattle.std.specs.declared.cmp.Ordering.TheVariants.{Less, Equal, Greater}
+use Rattle.std.proofs.lemmas.Bool.{cases_Bool}
+use Rattle.std.proofs.lemmas.List.Folds.{find-append}
+use Rattle.std.proofs.lemmas.List.Sorted.{IsPermutation-refl, IsPermutation-trans, IsPermutation-cons, IsPermutation-to_front, IsPermutation-swap, IsPermutation-map}
+use Rattle.am_types.specs.declared.Hash.{Hash}
+use Rattle.am_types.specs.declared.Change.{Change}
+use Rattle.am_types.specs.Order.{hash_cmp, same}
+use Rattle.am_types.specs.Members.{Member, member}
+use Rattle.am_types.specs.Deliver.{Sets, Alike, MayCome, receive, receive_by}
+use Rattle.am_types.specs.declared.Rejected.{Rejected}
+use Rattle.am_types.specs.declared.Why.TheVariants as reasons
+use Rattle.am_types.specs.Same.{same_change}
+use Rattle.std.proofs.lemmas.List.{map-append}
+use Rattle.std.proofs.lemmas.List.Elements.{All-nil, All-cons, All-contains, Contains-get_or, Contains-append_left, Contains-append_right}
+use Rattle.am_delivery.proofs.Lists.{Contains-here}
+use Rattle.am_delivery.proofs.Steady.{Steady, steady_all}
+use Rattle.am_delivery.proofs.Alikeness.{receive_alike}
+use Rattle.am_delivery.specs.Waiting.{member_of, members_of, waiting_of}
+
+-- ---- the map
+
+no_such : {X : Type 0} (x : X) → Some x ≡ None → ⊥
+no_such x e = cc
+
+-- a look-up in the map finds the change of the member
+pub looked_up : (es : List (Hash × Change)) (h : Hash) → lookup (is_at (hash_cmp h)) es ≡ option_map (λ (m : Member). m.change) (member (members_of es) h)
+looked_up [] h = refl
+looked_up (e ∷ es) h =
+    let again : lookup (is_at (hash_cmp h)) es ≡ option_map (λ (m : Member). m.change) (member (members_of es) h) = looked_up es h in
+    elim (cases_Bool (same hash_cmp h e.0)) [ inl t ↦ simp t refl | inr f ↦ simp f again ]
+
+pub both : (C W : List Member) (h : Hash) → member (C ++ W) h ≡ option_or (member C h) (member W h)
+both C W h = find-append (λ (m : Member). same hash_cmp h m.hash) C W
+
+-- a new entry goes to its place
+two_swapped : {X : Type 0} (x y : X) (zs : List X) → IsPermutation (x ∷ y ∷ zs) (y ∷ x ∷ zs)
+two_swapped x y zs = IsPermutation-swap (x ∷ y ∷ zs) (y ∷ x ∷ zs) 0 1 (omega arith) (omega arith) refl
+
+module _ (h : Hash) (c : Change) where
+  placed_by : (o : Ordering) (d : Hash × Change) (es : List (Hash × Change)) → hash_cmp h d.0 ≡ o → lookup (is_at (hash_cmp h)) (d ∷ es) ≡ None
+      → (lookup (is_at (hash_cmp h)) es ≡ None → IsPermutation ((h, c) ∷ es) (insert_entry hash_cmp es h c))
+      → IsPermutation ((h, c) ∷ d ∷ es) (match_ordering o ((h, c) ∷ d ∷ es) ((d.0, c) ∷ es) (d ∷ insert_entry hash_cmp es h c))
+  placed_by Less d es f e again = IsPermutation-refl ((h, c) ∷ d ∷ es)
+  placed_by Equal d es f e again = let test : same hash_cmp h d.0 ≡ true = ap is_eq f in absurd (no_such d.1 (simp test at e))
+  placed_by Greater d es f e again =
+      let test : same hash_cmp h d.0 ≡ false = ap is_eq f in
+      IsPermutation-trans ((h, c) ∷ d ∷ es) (d ∷ (h, c) ∷ es) (d ∷ insert_entry hash_cmp es h c)
+      (two_swapped (h, c) d es)
+      (IsPermutation-cons d ((h, c) ∷ es) (insert_entry hash_cmp es h c) (again (simp test at e)))
+
+  pub placed : (es : List (Hash × Change)) → lookup (is_at (hash_cmp h)) es ≡ None → IsPermutation ((h, c) ∷ es) (insert_entry hash_cmp es h c)
+  placed [] e = IsPermutation-refl ((h, c) ∷ [])
+  placed (d ∷ es) e = placed_by (hash_cmp h d.0) d es refl e (placed es)
+
+  pub joined_waiting : (w v : BTreeMap Hash Change) → get hash_cmp w h ≡ None → v.entries ≡ insert_entry hash_cmp w.entries h c
+      → IsPermutation (waiting_of w ++ record { hash = h; change = c } ∷ []) (waiting_of v)
+  joined_waiting w v none e =
+      IsPermutation-trans (waiting_of w ++ record { hash = h; change = c } ∷ []) (record { hash = h; change = c } ∷ waiting_of w) (waiting_of v)
+      (IsPermutation-to_front (waiting_of w) (record { hash = h; change = c }))
+      (subst (λ es. IsPermutation (record { hash = h; change = c } ∷ waiting_of w) (members_of es)) (sym e)
+      (IsPermutation-map member_of ((h, c) ∷ w.entries) (insert_entry hash_cmp w.entries h c) (placed w.entries none)))
+
+pub receive-append : (s : Sets) (L M : List Member) → receive s (L ++ M) ≡ receive (receive s L) M
+receive-append s [] M = refl
+receive-append s (m ∷ L) M = receive-append (receive_by (member (s.closed ++ s.waiting) m.hash) m s) L M
+
+-- ---- what is known of a hash
+
+abbrev pub change_of : Member → Change
+change_of m = m.change
+
+pub in_first : (o p : Option Member) (c : Change) → Some c ≡ option_map change_of o → Some c ≡ option_map change_of (option_or o p)
+in_first None p c e = absurd (no_such c e)
+in_first (Some m) p c e = e
+
+pub in_second : (o p : Option Member) (r : Option Change) → None ≡ option_map change_of o → r ≡ option_map change_of p → r ≡ option_map change_of (option_or o p)
+in_second None p r n e = e
+in_second (Some m) p r n e = absurd (no_such m.change (sym n))
+
+pub is_none : (o : Option Member) → None ≡ option_map change_of o → o ≡ None
+is_none None e = refl
+is_none (Some m) e = absurd (no_such m.change (sym e))
+
+none_second : (o p : Option Member) → option_or o p ≡ None → p ≡ None
+none_second None p e = e
+none_second (Some m) p e = absurd (no_such m e)
+
+pub some_is : (o : Option Member) (c : Change) → Some c ≡ option_map change_of o → (m : Member) × (o ≡ Some m) × (m.change ≡ c)
+some_is None c e = absurd (no_such c e)
+some_is (Some m) c e = let f : m.change ≡ c = cc in (m, refl, f)
+
+-- ---- one change
+
+pub alike_new : (C : List Member) (w v : BTreeMap Hash Change) (R : List Rejected) (h : Hash) (c : Change)
+    → None ≡ option_map change_of (member (C ++ waiting_of w) h) → v.entries ≡ insert_entry hash_cmp w.entries h c
+    → Alike (receive (record { closed = C; waiting = waiting_of w; rejected = R }) (record { hash = h; change = c } ∷ [])) (record { closed = C; waiting = waiting_of v; rejected = R })
+alike_new C w v R h c none e =
+    let m : Member = record { hash = h; change = c } in
+    let s : Sets = record { closed = C; waiting = waiting_of w; rejected = R } in
+    let t : Sets = record { closed = C; waiting = waiting_of v; rejected = R } in
+    let absent : member (C ++ waiting_of w) h ≡ None = is_none (member (C ++ waiting_of w) h) none in
+    let alone : member (waiting_of w) h ≡ None = none_second (member C h) (member (waiting_of w) h) (sym (both C (waiting_of w) h) ∙ absent) in
+    let unlisted : get hash_cmp w h ≡ None = looked_up w.entries h ∙ ap (option_map change_of) alone in
+    let grown : Alike (receive_by None m s) t = record { closed = IsPermutation-refl C; waiting = joined_waiting h c w v unlisted e; rejected = refl } in
+    subst (λ o. Alike (receive_by o m s) t) (sym absent) grown
+
+module _ (C W : List Member) (m : Member) (c : Change) (some : Some c ≡ option_map change_of (member (C ++ W) m.hash)) where
+  abbrev found : (n : Member) × (member (C ++ W) m.hash ≡ Some n) × (n.change ≡ c)
+  found = some_is (member (C ++ W) m.hash) c some
+
+  received : (R : List Rejected) (t : Sets) → Alike (receive_by (Some found.0) m (record { closed = C; waiting = W; rejected = R })) t → Alike (receive (record { closed = C; waiting = W; rejected = R }) (m ∷ [])) t
+  received R t a = subst (λ o. Alike (receive_by o m (record { closed = C; waiting = W; rejected = R })) t) (sym found.1) a
+
+  pub alike_same : (R : List Rejected) → same_change c m.change ≡ true → Alike (receive (record { closed = C; waiting = W; rejected = R }) (m ∷ [])) (record { closed = C; waiting = W; rejected = R })
+  alike_same R t =
+      let test : same_change found.0.change m.change ≡ true = ap (λ x. same_change x m.change) found.2 ∙ t in
+      received R (record { closed = C; waiting = W; rejected = R }) (simp test (alike_itself (record { closed = C; waiting = W; rejected = R })))
+    where
+      alike_itself : (s : Sets) → Alike s s
+      alike_itself s = record { closed = IsPermutation-refl s.closed; waiting = IsPermutation-refl s.waiting; rejected = refl }
+
+  pub alike_clash : (R Q : List Rejected) → same_change c m.change ≡ false → Q ≡ R ++ record { hash = m.hash; why = reasons.HashClash } ∷ []
+      → Alike (receive (record { closed = C; waiting = W; rejected = R }) (m ∷ [])) (record { closed = C; waiting = W; rejected = Q })
+  alike_clash R Q f q =
+      let test : same_change found.0.change m.change ≡ false = ap (λ x. same_change x m.change) found.2 ∙ f in
+      received R (record { closed = C; waiting = W; rejected = Q }) (simp test (record { closed = IsPermutation-refl C; waiting = IsPermutation-refl W; rejected = sym q }))
+
+-- ---- one more
+
+pub alike_trans : (s t u : Sets) → Alike s t → Alike t u → Alike s u
+alike_trans s t u a b = record {
+  closed = IsPermutation-trans s.closed t.closed u.closed a.closed b.closed;
+  waiting = IsPermutation-trans s.waiting t.waiting u.waiting a.waiting b.waiting;
+  rejected = a.rejected ∙ b.rejected;
+}
+
+pub alike_more : (s t u : Sets) (L : List Member) (m : Member) → Steady s → All MayCome L → MayCome m → Alike (receive s L) t → Alike (receive t (m ∷ [])) u → Alike (receive s (L ++ m ∷ [])) u
+alike_more s t u L m y fine one a b =
+    subst (λ k. Alike k u) (sym (receive-append s L (m ∷ [])))
+    (alike_trans (receive (receive s L) (m ∷ [])) (receive t (m ∷ [])) u
+    (receive_alike (receive s L) t (m ∷ []) (All-cons MayCome m [] one (All-nil MayCome)) (steady_all s L fine y) a) b)
+
+-- what holds of all pairs holds of the first of them and of the next
+pub of_parts : (P : Member → Type 0) (es ys rest : List (Hash × Change)) (x : Hash × Change) → ys ++ x ∷ rest ≡ es → All P (members_of es) → All P (members_of ys) × P (member_of x)
+of_parts P es ys rest x e a =
+    let split : members_of es ≡ members_of ys ++ member_of x ∷ members_of rest = sym (ap members_of e) ∙ map-append member_of ys (x ∷ rest) in
+    let whole : All P (members_of ys ++ member_of x ∷ members_of rest) = subst (All P) split a in (
+      λ k d l. All-contains P (members_of ys ++ member_of x ∷ members_of rest) (get_or (members_of ys) k d) whole (Contains-append_left (members_of ys) (member_of x ∷ members_of rest) (get_or (members_of ys) k d) (Contains-get_or (members_of ys) k d l)),
+      All-contains P (members_of ys ++ member_of x ∷ members_of rest) (member_of x) whole (Contains-append_right (members_of ys) (member_of x ∷ members_of rest) (member_of x) (Contains-here (member_of x) (members_of rest))),
+    )
+
+pub nothing_left : {X : Type 0} (l : List X) → length l ≡ 0 → l ≡ []
+nothing_left [] h = refl
+nothing_left (x ∷ xs) h = absurd (omega arith)

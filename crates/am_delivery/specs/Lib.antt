@@ -1,0 +1,4 @@
+pub mod Laws
+pub mod Tracking
+pub mod Views
+pub mod Waiting

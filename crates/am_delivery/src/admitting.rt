@@ -1,0 +1,83 @@
+//! Settling, by the queue of the changes that lack nothing.
+ghost use Rattle.std.specs.Prelude.{◌≡◌, All, IfOk, OnOk, MatchBool, MatchOption, vec_items};
+ghost use Rattle.am_types.specs.Members.{Member};
+ghost use Rattle.am_types.specs.ValidSets.{Valid};
+ghost use Rattle.am_types.specs.Deliver.{Sets, TakesOne, IsSettled, Waits, admit_by, turned_away, settle};
+ghost use Rattle.am_delivery.specs.Tracking.{Tracks};
+ghost use Rattle.am_delivery.specs.Views.{tracker};
+ghost use Rattle.am_delivery.specs.Waiting.{waiting_of};
+
+use crate::closed::Closed;
+use crate::pending::Pending;
+use am_types::{Change, Hash, Rejected, Verdict, Why};
+use std::alloc::{AllocError, Global};
+use std::collections::BTreeMap;
+
+/// Why a change with this verdict is rejected, or None where it fits.
+fn why_not(verdict: Verdict) -> Option<Why>
+    ensures { MatchOption result (verdict ≡ Verdict.Fits) (λ why. (m : Member) (s : Sets) → admit_by verdict m s ≡ turned_away why m s) }
+{
+    match verdict {
+        Verdict::Fits => None,
+        Verdict::SeqClash(held) => Some(Why::SeqClash(held)),
+        Verdict::SeqGap => Some(Why::SeqGap),
+        Verdict::StartLow(dep) => Some(Why::StartLow(dep)),
+        Verdict::BadReference(place) => Some(Why::BadReference(place)),
+        Verdict::Full(limit) => Some(Why::Full(limit)),
+    }
+}
+
+/// Admits or rejects the ready change of least hash, and answers whether there was one.
+fn admit_next<S: Closed>(
+    alloc: Global,
+    closed: &mut S,
+    waiting: &mut BTreeMap<Hash, Change>,
+    pending: &mut Pending,
+    rejected: &mut Vec<Rejected>,
+) -> Result<bool, AllocError>
+    requires tracks { Tracks (S.members closed.old) (waiting_of waiting.old) (tracker pending.old) }
+    requires valid { Valid (S.members closed.old) }
+    requires waits { All (Waits (S.members closed.old)) (waiting_of waiting.old) }
+    ensures tracks { IfOk result (λ taken. Tracks (S.members closed.new) (waiting_of waiting.new) (tracker pending.new)) }
+    ensures one { let old : Sets = record { closed = S.members closed.old; waiting = waiting_of waiting.old; rejected = vec_items rejected.old } in
+        let new : Sets = record { closed = S.members closed.new; waiting = waiting_of waiting.new; rejected = vec_items rejected.new } in
+        IfOk result (λ taken. MatchBool taken (TakesOne old new) ((new ≡ old) × IsSettled old)) }
+    ensures base { OnOk result (S.base closed.new ≡ S.base closed.old) }
+{
+    let _count = waiting.len();
+    let Some(hash) = pending.pop() else {
+        return Ok(false);
+    };
+    let Some(change) = waiting.remove(&hash) else {
+        return Ok(false);
+    };
+    let verdict = closed.judge(alloc, &change)?;
+    match why_not(verdict) {
+        None => {
+            closed.join(alloc, hash, change)?;
+            pending.release(&hash)?;
+        }
+        Some(why) => rejected.push(Rejected { hash, why })?,
+    }
+    Ok(true)
+}
+
+/// Admits or rejects until no change is ready.
+pub fn settle_all<S: Closed>(
+    alloc: Global,
+    closed: &mut S,
+    waiting: &mut BTreeMap<Hash, Change>,
+    pending: &mut Pending,
+    rejected: &mut Vec<Rejected>,
+) -> Result<(), AllocError>
+    requires tracks { Tracks (S.members closed.old) (waiting_of waiting.old) (tracker pending.old) }
+    requires valid { Valid (S.members closed.old) }
+    requires waits { All (Waits (S.members closed.old)) (waiting_of waiting.old) }
+    ensures settles { let old : Sets = record { closed = S.members closed.old; waiting = waiting_of waiting.old; rejected = vec_items rejected.old } in
+        let new : Sets = record { closed = S.members closed.new; waiting = waiting_of waiting.new; rejected = vec_items rejected.new } in
+        OnOk result (new ≡ settle old) }
+    ensures base { OnOk result (S.base closed.new ≡ S.base closed.old) }
+{
+    while admit_next(alloc, closed, waiting, pending, rejected)? {}
+    Ok(())
+}

@@ -1,0 +1,79 @@
+//! The changes of a delivery join the waiting ones, unless their hashes are held.
+ghost use Rattle.std.specs.Prelude.{◌≡◌, ◌++◌, ◌∷◌, [], All, OnOk, option_map, vec_items};
+ghost use Rattle.std.specs.Option.{option_copied};
+ghost use Rattle.am_types.specs.Members.{member};
+ghost use Rattle.am_types.specs.Same.{same_change};
+ghost use Rattle.am_types.specs.Deliver.{Sets, MayCome, AreStored, Alike, receive};
+ghost use Rattle.am_delivery.specs.Waiting.{members_of, waiting_of};
+
+use crate::closed::Closed;
+use am_types::{Change, Hash, Rejected, Why};
+use std::alloc::AllocError;
+use std::collections::BTreeMap;
+
+/// Whether two changes are equal.
+fn is_same(held: &Change, change: &Change) -> bool
+    ensures { result ≡ same_change held.now change.now }
+{
+    held == change
+}
+
+/// The change with this hash that is closed or waits.
+fn known<'a, S: Closed>(
+    closed: &'a S,
+    waiting: &'a BTreeMap<Hash, Change>,
+    hash: &Hash,
+) -> Option<&'a Change>
+    ensures { option_copied result ≡ option_map (λ m. m.change) (member (S.members closed.now ++ waiting_of waiting.now) hash.now) }
+{
+    match closed.held(hash) {
+        Some(change) => Some(change),
+        None => waiting.get(hash),
+    }
+}
+
+/// A change that is held is skipped, one whose hash another change has is rejected, and any other joins the waiting
+/// ones.
+fn receive_one<S: Closed>(
+    closed: &S,
+    waiting: &mut BTreeMap<Hash, Change>,
+    rejected: &mut Vec<Rejected>,
+    hash: Hash,
+    change: Change,
+) -> Result<(), AllocError>
+    ensures { let old : Sets = record { closed = S.members closed.now; waiting = waiting_of waiting.old; rejected = vec_items rejected.old } in
+        let new : Sets = record { closed = S.members closed.now; waiting = waiting_of waiting.new; rejected = vec_items rejected.new } in
+        OnOk result (Alike (receive old (record { hash = hash; change = change } ∷ [])) new) }
+{
+    let Some(held) = known(closed, waiting, &hash) else {
+        waiting.insert(hash, change)?;
+        return Ok(());
+    };
+    if is_same(held, &change) {
+        return Ok(());
+    }
+    rejected.push(Rejected {
+        hash,
+        why: Why::HashClash,
+    })?;
+    Ok(())
+}
+
+/// The same for each of these changes in turn.
+pub fn receive_all<S: Closed>(
+    closed: &S,
+    waiting: &mut BTreeMap<Hash, Change>,
+    rejected: &mut Vec<Rejected>,
+    changes: Vec<(Hash, Change)>,
+) -> Result<(), AllocError>
+    requires stored { AreStored (S.members closed.now) (waiting_of waiting.old) }
+    requires may_come { All MayCome (members_of (vec_items changes)) }
+    ensures { let old : Sets = record { closed = S.members closed.now; waiting = waiting_of waiting.old; rejected = vec_items rejected.old } in
+        let new : Sets = record { closed = S.members closed.now; waiting = waiting_of waiting.new; rejected = vec_items rejected.new } in
+        OnOk result (Alike (receive old (members_of (vec_items changes))) new) }
+{
+    for (hash, change) in changes {
+        receive_one(closed, waiting, rejected, hash, change)?;
+    }
+    Ok(())
+}

@@ -1,0 +1,36 @@
+//! A closed set of changes that can grow.
+ghost use Rattle.std.specs.Prelude.{◌≡◌, ◌++◌, ◌∷◌, [], List, IfOk, OnOk, IsTrue, option_map};
+ghost use Rattle.std.specs.Option.{option_copied};
+ghost use Rattle.am_types.specs.Members.{Member, member, holds_deps};
+ghost use Rattle.am_types.specs.Fine.{Fine};
+ghost use Rattle.am_types.specs.Verdicts.{verdict};
+ghost use Rattle.am_types.specs.ValidSets.{Valid, Joins};
+
+use am_types::{Change, Hash, Verdict};
+use std::alloc::{AllocError, Global};
+
+/// A closed set of changes that can grow.
+pub trait Closed {
+    ghost members: { Self → List Member };
+
+    // What stays as it is while changes join.
+    ghost base: { Self → List Member };
+
+    /// The change with this hash, where it is held.
+    fn held(&self, hash: &Hash) -> Option<&Change>
+        ensures { option_copied result ≡ option_map (λ m. m.change) (member (members self.now) hash.now) };
+
+    /// Whether a change fits, or the first reason why it doesn't.
+    fn judge(&self, alloc: Global, change: &Change) -> Result<Verdict, AllocError>
+        requires valid { Valid (members self.now) }
+        requires deps { IsTrue (holds_deps (members self.now) change.now) }
+        requires fine { Fine change.now }
+        ensures { IfOk result (λ answer. answer ≡ verdict (members self.now) change.now) };
+
+    /// Takes a change in.
+    fn join(&mut self, alloc: Global, hash: Hash, change: Change) -> Result<(), AllocError>
+        requires valid { Valid (members self.old) }
+        requires joins { Joins (members self.old) (record { hash = hash; change = change }) }
+        ensures joined { OnOk result (members self.new ≡ members self.old ++ record { hash = hash; change = change } ∷ []) }
+        ensures base { OnOk result (base self.new ≡ base self.old) };
+}

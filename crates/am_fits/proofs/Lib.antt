@@ -1,0 +1,13 @@
+pub mod Interned
+pub mod Lookups
+pub mod Entering
+pub mod OwnOperations
+pub mod KnownBy
+pub mod FirstBad
+pub mod Telling
+pub mod SeqLaws
+pub mod Sums
+pub mod Outcomes
+pub mod Fresh
+pub mod Adding
+pub mod Firsts

@@ -1,0 +1,88 @@
+//! The index of the operations of a set.
+ghost use Rattle.std.specs.Prelude.{◌≡◌, ◌++◌, ◌∷◌, [], OnOk, OnErr, option_map};
+ghost use Rattle.am_types.specs.Views.{id_of};
+ghost use Rattle.am_fits.specs.Facts.{fact_with};
+ghost use Rattle.am_fits.specs.Indexes.{index_of, index_with, ForChanges, MayAdmit};
+ghost use Rattle.am_fits.specs.Shown.{fact_shown};
+
+use crate::seen::Seen;
+use crate::table::Table;
+use crate::totals::Totals;
+use am_types::{Change, IdRef, Twin};
+use std::alloc::{AllocError, Global};
+use std::marker::Model;
+
+/// What the verdict asks of the operations of a set: their facts by their ids, and the totals that have limits.
+/// Contracts see it as the list of the facts, in the order in which they came, and the totals.
+#[derive(Drop)]
+pub struct OpIndex {
+    table: Table,
+    totals: Totals,
+}
+
+impl Model for OpIndex {
+    ghost use Rattle.am_fits.specs.Indexes.{Indexed};
+
+    ghost Value = { Indexed };
+
+    ghost use Rattle.am_fits.specs.Words.{facts_in, IsTable};
+
+    ghost view = { λ x. record { facts = facts_in x.table; totals = x.totals } };
+
+    ghost invariant = { λ x. IsTable x.table };
+}
+
+impl OpIndex {
+    /// The index of no changes.
+    pub fn new(alloc: Global) -> Self
+        ensures { result ≡ index_of [] }
+    {
+        OpIndex {
+            table: Table::new(alloc),
+            totals: Totals {
+                changes: 0,
+                operations: 0,
+                preds: 0,
+                links: 0,
+            },
+        }
+    }
+
+    /// Takes the change in, which is a valid set together with those that were taken in before. Without memory the
+    /// index stays as it was.
+    pub fn admit(&mut self, alloc: Global, change: &Change) -> Result<(), AllocError>
+        requires { MayAdmit self.old change.now }
+        ensures ok { OnOk result (self.new ≡ index_with self.old change.now) }
+        ensures changes { OnOk result (ForChanges self.old (λ cs. self.new ≡ index_of (cs ++ change.now ∷ []))) }
+        ensures err { OnErr result (self.new ≡ self.old) }
+    {
+        let totals = self.totals.with(change);
+        self.table.add(alloc, change)?;
+        self.totals = totals;
+        Ok(())
+    }
+
+    /// What is said of the operation with the id.
+    pub(crate) fn find(&self, id: IdRef<'_>) -> Option<Seen<'_>>
+        ensures { option_map fact_shown result ≡ fact_with self.now.facts (id_of id.entry) }
+    {
+        self.table.find(id)
+    }
+
+    /// How many changes were taken in, and how many operations, predecessors and dependencies they have in all.
+    pub fn totals(&self) -> Totals
+        ensures { result ≡ self.now.totals }
+    {
+        self.totals
+    }
+}
+
+impl Twin for OpIndex {
+    fn copy(&self, _alloc: Global) -> Result<OpIndex, AllocError> {
+        let table = self.table.copy()?;
+        Ok(OpIndex {
+            table,
+            totals: self.totals,
+        })
+    }
+}

@@ -1,0 +1,126 @@
+//! What references ask of an operation, borrowed.
+ghost use Rattle.std.specs.Prelude.{◌≡◌, ◌==◌, ◌||◌, not, option_map, true, false};
+ghost use Rattle.std.specs.Option.{option_map_or};
+ghost use Rattle.am_types.specs.Actions as actions;
+ghost use Rattle.am_types.specs.Operations.{slot};
+ghost use Rattle.am_types.specs.References.{takes};
+ghost use Rattle.am_types.specs.Same.{same_id, same_object, same_key};
+ghost use Rattle.am_types.specs.Views.{id_of, object_of};
+ghost use Rattle.am_fits.specs.Facts.{Fact, fact_of};
+ghost use Rattle.am_fits.specs.Shown.{slot_shown, fact_shown};
+ghost use Rattle.am_fits.specs.Told.{inserts, gives_to};
+
+use am_types::{IdRef, Key, ObjId, ObjRef, Op, compare_ids};
+
+/// A slot, borrowed.
+#[derive(Clone, Copy, Debug)]
+pub(crate) enum SlotRef<'a> {
+    Name(&'a [u8]),
+    Head,
+    Elem(IdRef<'a>),
+}
+
+/// What references ask of an operation.
+#[derive(Clone, Copy, Debug)]
+pub(crate) struct Seen<'a> {
+    pub object: ObjRef<'a>,
+    pub slot: SlotRef<'a>,
+    pub action: u8,
+    pub insert: bool,
+}
+
+/// What references ask of the operation with this id.
+pub(crate) fn show<'a>(op: &'a Op, id: IdRef<'a>) -> Seen<'a>
+    ensures { fact_shown result ≡ fact_of (record { id = id_of id.entry; op = op.now }) }
+{
+    Seen {
+        object: op.obj.lend(),
+        slot: show_slot(op, id),
+        action: op.action,
+        insert: op.insert,
+    }
+}
+
+/// What the operation with this id gives a value to.
+pub(crate) fn show_slot<'a>(op: &'a Op, id: IdRef<'a>) -> SlotRef<'a>
+    ensures { slot_shown result ≡ slot (record { id = id_of id.entry; op = op.now }) }
+{
+    if op.insert {
+        return SlotRef::Elem(id);
+    }
+    match &op.key {
+        Key::Name(name) => SlotRef::Name(name.as_str().as_bytes()),
+        Key::Head => SlotRef::Head,
+        Key::Elem(id) => SlotRef::Elem(id.lend()),
+    }
+}
+
+/// Whether it makes an object that takes the key.
+pub(crate) fn makes(seen: Option<Seen<'_>>, key: &Key) -> bool
+    ensures { result ≡ option_map_or (λ f. takes f.action key.now) (option_map fact_shown seen.entry) false }
+{
+    match seen {
+        Some(seen) => takes(seen.action, key),
+        None => false,
+    }
+}
+
+/// Whether it inserts into the object.
+pub(crate) fn inserts(seen: Option<Seen<'_>>, object: &ObjId) -> bool
+    ensures { result ≡ option_map_or (inserts object.now) (option_map fact_shown seen.entry) false }
+{
+    match seen {
+        Some(seen) => seen.insert && same_object(seen.object, object.lend()),
+        None => false,
+    }
+}
+
+/// Whether it is no deletion, and is in the slot of the object.
+pub(crate) fn gives_to(seen: Option<Seen<'_>>, object: ObjRef<'_>, slot: SlotRef<'_>) -> bool
+    ensures { result ≡ option_map_or (gives_to (object_of object.entry) (slot_shown slot.entry)) (option_map fact_shown seen.entry) false }
+{
+    match seen {
+        Some(seen) => {
+            seen.action != 3 && same_object(seen.object, object) && same_slot(seen.slot, slot)
+        }
+        None => false,
+    }
+}
+
+/// Whether what the action makes takes such a key.
+pub(crate) fn takes(action: u8, key: &Key) -> bool
+    ensures { result ≡ takes action key.now }
+{
+    match key {
+        Key::Name(_) => action == 0 || action == 6,
+        Key::Head => action == 2 || action == 4,
+        Key::Elem(_) => action == 2 || action == 4,
+    }
+}
+
+fn same_id(a: IdRef<'_>, b: IdRef<'_>) -> bool
+    ensures { result ≡ same_id (id_of a.entry) (id_of b.entry) }
+{
+    compare_ids(a, b).is_eq()
+}
+
+fn same_object(a: ObjRef<'_>, b: ObjRef<'_>) -> bool
+    ensures { result ≡ same_object (object_of a.entry) (object_of b.entry) }
+{
+    match (a, b) {
+        (ObjRef::Root, ObjRef::Root) => true,
+        (ObjRef::Made(a), ObjRef::Made(b)) => same_id(a, b),
+        _ => false,
+    }
+}
+
+fn same_slot(a: SlotRef<'_>, b: SlotRef<'_>) -> bool
+    ensures { result ≡ same_key (slot_shown a.entry) (slot_shown b.entry) }
+{
+    match (a, b) {
+        (SlotRef::Name(a), SlotRef::Name(b)) => a == b,
+        (SlotRef::Head, SlotRef::Head) => true,
+        (SlotRef::Elem(a), SlotRef::Elem(b)) => same_id(a, b),
+        _ => false,
+    }
+}

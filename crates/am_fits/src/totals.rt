@@ -1,0 +1,70 @@
+//! How many changes a set has, and how many operations, predecessors and dependencies they have in all.
+ghost use Rattle.std.specs.Prelude.{◌≡◌, ◌≤◌, ◌^◌};
+ghost use Rattle.am_types.specs.Fine.{pred_count};
+ghost use Rattle.am_fits.specs.Sums.{totals_of, totals_with, limit_of, AreWithinLimits, IsWithinLimits};
+
+use am_types::{Change, Limit, Op};
+
+/// The most changes that a set may have.
+const MOST_CHANGES: u64 = 1 << 20;
+
+/// The most operations that a set may have, and the most predecessors and dependencies.
+const MOST: u64 = 1 << 22;
+
+/// What the changes of a set have in all.
+#[derive(Clone, Copy, Debug, PartialEq, Eq)]
+pub struct Totals {
+    /// How many changes there are.
+    pub changes: u64,
+    /// How many operations they have.
+    pub operations: u64,
+    /// How many predecessors the operations have.
+    pub preds: u64,
+    /// How many dependencies the changes have.
+    pub links: u64,
+}
+
+impl Totals {
+    /// Those of the set and of one more change.
+    pub(crate) fn with(&self, change: &Change) -> Totals
+        requires set { AreWithinLimits self.now }
+        requires change { IsWithinLimits change.now }
+        ensures { result ≡ totals_with self.now change.now }
+    {
+        Totals {
+            changes: self.changes + 1,
+            operations: self.operations + change.ops.len() as u64,
+            preds: self.preds + pred_count(change.ops.as_slice()),
+            links: self.links + change.deps.len() as u64,
+        }
+    }
+
+    /// The first limit that is passed.
+    pub(crate) fn limit(&self) -> Option<Limit>
+        ensures { result ≡ limit_of self.now }
+    {
+        if self.changes > MOST_CHANGES {
+            Some(Limit::Changes)
+        } else if self.operations > MOST {
+            Some(Limit::Operations)
+        } else if self.preds > MOST {
+            Some(Limit::Preds)
+        } else if self.links > MOST {
+            Some(Limit::Links)
+        } else {
+            None
+        }
+    }
+}
+
+/// How many predecessors the operations have in all.
+fn pred_count(ops: &[Op]) -> u64
+    requires { pred_count ops.now ≤ 2 ^ 22 }
+    ensures { result ≡ pred_count ops.now }
+{
+    let mut count = 0;
+    for op in ops {
+        count += op.preds.len() as u64;
+    }
+    count
+}

@@ -1,0 +1,12 @@
+pub mod ObjectOrder
+pub mod Searched
+pub mod SlotRuns
+pub mod Ordered
+pub mod Pushed
+pub mod Joined
+pub mod Levels
+pub mod Agree
+pub mod Floats
+pub mod Depths
+pub mod GoodTexts
+pub mod Numbers64

@@ -1,0 +1,85 @@
+//! Outside values: the operations of whole changes, read from their columns and written back.
+use crate::*;
+use am_colmeta::{ActorList, ColumnList, Columns};
+use am_types::{KeyRef, ObjRef};
+
+const KNOWN: [u64; 14] = [1, 2, 17, 19, 21, 52, 66, 86, 87, 112, 113, 115, 148, 165];
+
+// The metadata and the columns of a change that sets the name `a` to 2 over an operation of the same actor.
+const METADATA: [u8; 17] = [
+    0x08, 0x15, 0x03, 0x34, 0x01, 0x42, 0x02, 0x56, 0x02, 0x57, 0x01, 0x70, 0x02, 0x71, 0x02, 0x73,
+    0x02,
+];
+
+const BODY: [u8; 15] = [
+    0x7f, 0x01, 0x61, 0x01, 0x7f, 0x01, 0x7f, 0x13, 0x02, 0x7f, 0x01, 0x7f, 0x00, 0x7f, 0x01,
+];
+
+fn cursor<'a>(metadata: &'a [u8], body: &'a [u8], others: &'a [u8]) -> Option<OpCursor<'a>> {
+    let Ok((list, _)) = ColumnList::read(metadata) else {
+        return None;
+    };
+    let Ok(columns) = Columns::over(list, body, &KNOWN) else {
+        return None;
+    };
+    let Ok((others, _)) = ActorList::read(others) else {
+        return None;
+    };
+    match OpCursor::over(columns, &[0xaa], others) {
+        Ok(ops) => Some(ops),
+        Err(_) => None,
+    }
+}
+
+#[test]
+fn reads_an_operation(rt: HostRuntime) {
+    let Some(mut ops) = cursor(&METADATA, &BODY, &[0x00]) else {
+        assert!(rt; false, "one operation is spelled");
+        return;
+    };
+    let Some(op) = ops.again().next() else {
+        assert!(rt; false, "one operation is there");
+        return;
+    };
+    assert!(rt; matches!(op.obj, ObjRef::Root));
+    assert!(rt; matches!(op.key, KeyRef::Name("a")));
+    assert!(rt; !op.insert && !op.expand && op.action == 1 && op.mark.is_none());
+    assert!(rt; op.value.kind == 3 && op.value.raw == &[0x02][..]);
+    let mut preds = op.preds;
+    let Some(pred) = preds.next() else {
+        assert!(rt; false, "one predecessor is there");
+        return;
+    };
+    assert!(rt; pred.counter == 1 && pred.actor == &[0xaa][..]);
+    assert!(rt; preds.next().is_none());
+    assert!(rt; ops.next().is_some());
+    assert!(rt; ops.next().is_none());
+}
+
+#[test]
+fn refuses_columns(rt: HostRuntime) {
+    let mut bad = BODY;
+    bad[5] = 0x08;
+    assert!(rt;
+        cursor(&METADATA, &bad, &[0x00]).is_none(),
+        "an action above 7"
+    );
+    let mut bad = BODY;
+    bad[12] = 0x01;
+    assert!(rt;
+        cursor(&METADATA, &bad, &[0x00]).is_none(),
+        "an actor that isn't listed"
+    );
+    let mut bad = BODY;
+    bad[14] = 0x00;
+    assert!(rt;
+        cursor(&METADATA, &bad, &[0x00]).is_none(),
+        "a counter of 0"
+    );
+    let mut bad = BODY;
+    bad[10] = 0x02;
+    assert!(rt;
+        cursor(&METADATA, &bad, &[0x00]).is_none(),
+        "a length without ids"
+    );
+}
