@@ -1,0 +1,98 @@
+-- What a delivery leaves in a store.
+use Rattle.std.proofs.Common.{ℕ, ◌≡◌, ◌+◌, List, [], ◌∷◌, ◌++◌, length, map, get_or, All, Contains, IsPermutation, BTreeMap, refl, sym, ap, ◌∙◌, subst, inl, inr, arith}
+use Rattle.std.proofs.lemmas.List.{map-append, append-nil, length-append, length-map}
+use Rattle.std.proofs.lemmas.List.Elements.{All-map, All-contains, Contains-get_or, Contains-append_left, Contains-append_right, Contains-append_cases}
+use Rattle.std.proofs.lemmas.List.Sorted.{IsPermutation-sym, Contains-permutation}
+use Rattle.am_types.specs.declared.Hash.{Hash}
+use Rattle.am_types.specs.declared.Change.{Change}
+use Rattle.am_types.specs.declared.Rejected.{Rejected}
+use Rattle.am_types.specs.Members.{Member}
+use Rattle.am_types.specs.Deliver.{Sets, AreStored, deliver}
+use Rattle.am_graph.specs.declared.Node.{Node}
+use Rattle.am_fits.specs.Indexes.{Indexed, AreOf}
+use Rattle.am_change.specs.Contents.{hash}
+use Rattle.am_change.specs.Judgement.{HasOwnHashes}
+use Rattle.am_delivery.specs.Laws.{KeepsWhatCame}
+use Rattle.am_delivery.specs.Waiting.{member_of, members_of, waiting_of}
+use Rattle.am_store.specs.declared.report.Report.{Report}
+use Rattle.am_store.specs.Kept.{Kept, IsKept, Takes, with_hash, with_hashes}
+use Rattle.am_store.specs.Files.{IsFile}
+use Rattle.am_store.specs.Reading.{HasRead, changes_of}
+
+abbrev IsOwn : Member → Type 0
+IsOwn m = m.hash.0 ≡ hash m.change
+
+pub own_of : (cs : List Change) → HasOwnHashes (with_hashes cs)
+own_of cs = All-map IsOwn with_hash cs (λ k d l. refl)
+
+own_left : (C W L D V : List Member) → KeepsWhatCame → HasOwnHashes (C ++ W) → HasOwnHashes L → D ≡ (deliver C W L).closed → IsPermutation (deliver C W L).waiting V → HasOwnHashes (D ++ V)
+own_left C W L D V keeps own came e p k d l =
+    let s = deliver C W L in
+    let m = get_or (D ++ V) k d in
+    let there : Contains (s.closed ++ s.waiting) m = elim (Contains-append_cases D V m (Contains-get_or (D ++ V) k d l)) [
+      | inl a ↦ Contains-append_left s.closed s.waiting m (subst (λ xs. Contains xs m) e a)
+      | inr b ↦ Contains-append_right s.closed s.waiting m (Contains-permutation V s.waiting m (IsPermutation-sym s.waiting V p) b)
+    ] in
+    elim (Contains-append_cases (C ++ W) L m (keeps C W L m there)) [ inl a ↦ All-contains IsOwn (C ++ W) m own a | inr b ↦ All-contains IsOwn L m came b ]
+
+-- nothing has joined yet, and the waiting changes are copied
+module _ (old : List (Hash × Change)) (w v : BTreeMap Hash Change) (copied : v.entries ≡ w.entries) where
+  same_closed : members_of (old ++ []) ≡ members_of old
+  same_closed = ap members_of (append-nil old)
+
+  same_waiting : waiting_of v ≡ waiting_of w
+  same_waiting = ap members_of copied
+
+  pub begins_stored : AreStored (members_of old) (waiting_of w) → AreStored (members_of (old ++ [])) (waiting_of v)
+  begins_stored s = subst (λ C. AreStored C (waiting_of v)) (sym same_closed) (subst (AreStored (members_of old)) (sym same_waiting) s)
+
+  -- `fresh` have joined, and u wait
+  module _ (kept fresh : List (Hash × Change)) (u : BTreeMap Hash Change) (L : List Member)
+      (closed : members_of (kept ++ fresh) ≡ (deliver (members_of (old ++ [])) (waiting_of v) L).closed)
+      (waiting : IsPermutation (deliver (members_of (old ++ [])) (waiting_of v) L).waiting (waiting_of u))
+      (stored : AreStored (members_of (kept ++ fresh)) (waiting_of u))
+      (base : members_of kept ≡ members_of old) where
+    abbrev outcome : Sets
+    outcome = deliver (members_of old) (waiting_of w) L
+
+    begun : deliver (members_of (old ++ [])) (waiting_of v) L ≡ outcome
+    begun = λ i. deliver (same_closed i) (same_waiting i) L
+
+    whole : members_of (kept ++ fresh) ≡ members_of (old ++ fresh)
+    whole = map-append member_of kept fresh ∙ ap (λ l. l ++ members_of fresh) base ∙ sym (map-append member_of old fresh)
+
+    new_closed : members_of (old ++ fresh) ≡ outcome.closed
+    new_closed = sym whole ∙ closed ∙ ap (λ (s : Sets). s.closed) begun
+
+    new_waiting : IsPermutation outcome.waiting (waiting_of u)
+    new_waiting = subst (λ (s : Sets). IsPermutation s.waiting (waiting_of u)) begun waiting
+
+    pub kept_after : KeepsWhatCame → HasOwnHashes (members_of old ++ waiting_of w) → HasOwnHashes L → IsKept (record { closed = members_of (old ++ fresh); waiting = waiting_of u })
+    kept_after keeps own came = record {
+      stored = subst (λ C. AreStored C (waiting_of u)) whole stored;
+      own_hashes = own_left (members_of old) (waiting_of w) L (members_of (old ++ fresh)) (waiting_of u) keeps own came new_closed new_waiting;
+    }
+
+    pub of_after : (g : List (Hash × Node)) (ix : Indexed) → AreOf (members_of (kept ++ fresh)) g ix → AreOf (members_of (old ++ fresh)) g ix
+    of_after g ix a = subst (λ C. AreOf C g ix) whole a
+
+    pub takes : (R : List Rejected) (n k : ℕ) → R ≡ (deliver (members_of (old ++ [])) (waiting_of v) L).rejected → n ≡ length fresh → k ≡ length (waiting_of u)
+        → Takes (record { closed = members_of old; waiting = waiting_of w }) L (record { added = n; waiting = k; rejected = R }) (record { closed = members_of (old ++ fresh); waiting = waiting_of u })
+    takes R n k rejected joined wait = record {
+      closed = new_closed;
+      waiting = new_waiting;
+      rejected = rejected ∙ ap (λ (s : Sets). s.rejected) begun;
+      added =
+          let a = length-map old member_of in
+          let b = length-map (old ++ fresh) member_of in
+          let c = length-append old fresh in
+          omega arith;
+      wait = wait;
+    }
+
+pub file_read : (only : Rattle.std.proofs.Common.Bool) (bytes : List ℕ) (pairs : List (Hash × Change)) → HasRead bytes [] pairs → IsFile only bytes (changes_of pairs)
+file_read only bytes pairs r = record {
+  chunks = r.chunks;
+  file = record { bytes_are = r.bytes_are ∙ append-nil _; each = r.each };
+  hold = r.hold;
+}

@@ -1,0 +1,139 @@
+//! The closed set of a store while a delivery lets it grow.
+ghost use Rattle.std.specs.Prelude.{◌≡◌, ◌<◌, ◌++◌, ◌∷◌, [], List, Some, OnOk, length, slice_get};
+ghost use Rattle.am_types.specs.Members.{Member};
+ghost use Rattle.am_fits.specs.Indexes.{AreOf};
+ghost use Rattle.am_delivery.specs.Waiting.{members_of};
+ghost use Rattle.am_store.specs.Grown.{MayGrow};
+
+use am_delivery::Closed;
+use am_fits::{OpIndex, fits};
+use am_graph::Graph;
+use am_types::{Change, Hash, Verdict};
+use std::alloc::{AllocError, Global};
+use std::marker::Model;
+
+/// The changes that were there, which stay where they are, and those that have joined them, with the graph and the index
+/// of all. Contracts see the two lists.
+#[derive(Drop)]
+pub struct Growing<'a> {
+    pub(crate) old: &'a [(Hash, Change)],
+    pub(crate) fresh: Vec<(Hash, Change)>,
+    pub(crate) graph: Graph,
+    pub(crate) index: OpIndex,
+}
+
+impl<'a> Model for Growing<'a> {
+    ghost use Rattle.std.specs.Prelude.{◌++◌};
+    ghost use Rattle.am_fits.specs.Indexes.{AreOf};
+    ghost use Rattle.am_delivery.specs.Waiting.{members_of};
+    ghost use Rattle.am_store.specs.Grown.{Grown};
+
+    ghost Value = { Grown };
+
+    ghost view = { λ g. record { old = g.old.now; fresh = g.fresh.items } };
+
+    ghost invariant = { λ g. AreOf (members_of (g.old.now ++ g.fresh.items)) g.graph g.index };
+}
+
+/// The entry at a place of one list and then another.
+fn entry_at<'a>(
+    old: &'a [(Hash, Change)],
+    fresh: &'a [(Hash, Change)],
+    place: usize,
+) -> &'a (Hash, Change)
+    requires { place < length (old.now ++ fresh.now) }
+    ensures { slice_get (old.now ++ fresh.now) place ≡ Some result.now }
+{
+    if place < old.len() {
+        &old[place]
+    } else {
+        &fresh[place - old.len()]
+    }
+}
+
+/// Takes a change in, behind those that are there.
+fn grow(
+    alloc: Global,
+    graph: &mut Graph,
+    index: &mut OpIndex,
+    fresh: &mut Vec<(Hash, Change)>,
+    hash: Hash,
+    change: Change,
+) -> Result<(), AllocError>
+    requires { MayGrow graph.old index.old (record { hash = hash; change = change }) }
+    ensures fresh { OnOk result (fresh.new.items ≡ fresh.old.items ++ (hash, change) ∷ []) }
+    ensures of_set { OnOk result ((C : List Member) → AreOf C graph.old index.old → AreOf (C ++ record { hash = hash; change = change } ∷ []) graph.new index.new) }
+{
+    let count = change.ops.len() as u64;
+    let added = graph.add(
+        alloc,
+        hash,
+        &change.actor,
+        change.seq,
+        change.start,
+        count,
+        change.deps.as_slice(),
+    );
+    if added.is_err() {
+        return Err(AllocError);
+    }
+    index.admit(alloc, &change)?;
+    fresh.push((hash, change))?;
+    Ok(())
+}
+
+impl<'a> Growing<'a> {
+    /// The set of these entries, which has this graph and this index.
+    pub fn over(
+        alloc: Global,
+        old: &'a [(Hash, Change)],
+        graph: Graph,
+        index: OpIndex,
+    ) -> Growing<'a>
+        requires { AreOf (members_of old.now) graph index }
+        ensures { result ≡ record { old = old.now; fresh = [] } }
+    {
+        Growing {
+            old,
+            fresh: Vec::new(alloc),
+            graph,
+            index,
+        }
+    }
+}
+
+impl<'a> Closed for Growing<'a> {
+    ghost members = { λ g. members_of (g.old ++ g.fresh) };
+
+    ghost base = { λ g. members_of g.old };
+
+    fn held(&self, hash: &Hash) -> Option<&Change> {
+        let place = self.graph.place(hash)?;
+        let entry = entry_at(self.old, self.fresh.as_slice(), place);
+        Some(&entry.1)
+    }
+
+    fn judge(&self, alloc: Global, change: &Change) -> Result<Verdict, AllocError> {
+        fits(alloc, &self.graph, &self.index, change)
+    }
+
+    fn join(&mut self, alloc: Global, hash: Hash, change: Change) -> Result<(), AllocError> {
+        let grown = grow(
+            alloc,
+            &mut self.graph,
+            &mut self.index,
+            &mut self.fresh,
+            hash,
+            change,
+        );
+        if grown.is_err() {
+            // Graph and index may differ now, so nothing is kept.
+            self.old = &[];
+            self.fresh = Vec::new(alloc);
+            self.graph = Graph::new(alloc);
+            self.index = OpIndex::new(alloc);
+            return Err(AllocError);
+        }
+        Ok(())
+    }
+}

@@ -1,0 +1,23 @@
+//! A store of changes: a closed set, and the changes that wait for dependencies. Files are delivered to it whole or not
+//! at all.
+#![tactic(auto)]
+
+mod chunk;
+mod copies;
+mod fault;
+mod file;
+mod growing;
+mod hashing;
+mod laws;
+mod lists;
+mod report;
+mod store;
+#[cfg(test)]
+mod tests;
+
+pub use am_graph::ClockFault;
+pub use am_types::{Rejected, Why};
+pub use fault::{LoadError, LoadFault, ReadFault};
+pub use laws::one_reading;
+pub use report::{Counts, Report};
+pub use store::Store;

@@ -1,0 +1,204 @@
+//! A store of changes: a closed set and the changes that wait for dependencies.
+ghost use Rattle.std.specs.Prelude.{◌≡◌, [], List, IfOk, OnOk, OnErr, IfErr, All, Some, find, not, true, vec_items};
+ghost use Rattle.am_types.specs.declared.Change.{Change as AChange};
+ghost use Rattle.am_types.specs.Fine.{Fine};
+ghost use Rattle.am_types.specs.Order.{hash_cmp, Ascends};
+ghost use Rattle.am_types.specs.Members.{hashes, changes, holds};
+ghost use Rattle.am_types.specs.Ancestors.{ancestors};
+ghost use Rattle.am_types.specs.Canonical.{order};
+ghost use Rattle.am_types.specs.Deliver.{MayCome};
+ghost use Rattle.am_graph.specs.Graphs.{nodes, MatchFault};
+ghost use Rattle.am_change.specs.Judgement.{HasOwnHashes};
+ghost use Rattle.am_delivery.specs.Waiting.{members_of};
+ghost use Rattle.am_store.specs.Kept.{Kept, IsKept, counts_of, Takes, Delivered};
+ghost use Rattle.am_store.specs.Files.{IsFile, FirstBad};
+ghost use Rattle.am_store.specs.Whole.{MatchLoad};
+
+use crate::copies::{list_copied, map_copied};
+use crate::fault::ReadFault;
+use crate::file::changes_in;
+use crate::growing::Growing;
+use crate::hashing::hashed;
+use crate::lists::{changes_among, changes_with};
+use crate::report::{Counts, Report};
+use am_delivery::{deliver, keeps_what_came};
+use am_fits::OpIndex;
+use am_graph::{ClockFault, Graph};
+use am_types::{Change, Hash, List, Twin};
+use std::alloc::{AllocError, Global};
+use std::collections::BTreeMap;
+use std::marker::Model;
+
+/// A closed set of changes, and those that wait for dependencies. Contracts see the two lists of changes, each beside
+/// its hash: the closed ones in the order in which they came, the waiting ones ascending by hash.
+#[derive(Drop)]
+pub struct Store {
+    closed: Vec<(Hash, Change)>,
+    waiting: BTreeMap<Hash, Change>,
+    graph: Graph,
+    index: OpIndex,
+}
+
+impl Model for Store {
+    ghost use Rattle.am_store.specs.Kept.{Kept};
+    ghost use Rattle.am_store.specs.Whole.{kept_in, IsWhole};
+
+    ghost Value = { Kept };
+
+    ghost view = { kept_in };
+
+    ghost invariant = { IsWhole };
+}
+
+impl Store {
+    /// A store of no changes.
+    pub fn new(alloc: Global) -> Result<Store, AllocError>
+        ensures { IfOk result (λ store. store ≡ record { closed = []; waiting = [] }) }
+    {
+        Ok(Store {
+            closed: Vec::new(alloc),
+            waiting: BTreeMap::new(alloc),
+            graph: Graph::new(alloc),
+            index: OpIndex::new(alloc),
+        })
+    }
+
+    /// Delivers the changes of a file, as one list. All chunks are judged before any change is delivered. Document chunks
+    /// can't be read yet, and are refused whatever `only_changes` says. After a fault the store is as before.
+    pub fn read_file(
+        &mut self,
+        alloc: Global,
+        bytes: &[u8],
+        only_changes: bool,
+    ) -> Result<Report, ReadFault>
+        ensures ok { IfOk result (λ report. (cs : List AChange) × IsFile only_changes bytes.now cs × Delivered self.old cs report self.new) }
+        ensures load { IfErr result (λ fault. MatchLoad fault (λ e. FirstBad only_changes bytes.now e.chunk e.fault)) }
+        ensures err { OnErr result (self.new ≡ self.old) }
+    {
+        let pairs = changes_in(alloc, bytes)?;
+        let report = self.take(alloc, pairs)?;
+        Ok(report)
+    }
+
+    /// Delivers these changes in turn, each under its own hash. Without memory the store is as before.
+    pub fn deliver(&mut self, alloc: Global, changes: List<Change>) -> Result<Report, AllocError>
+        requires { All Fine changes }
+        ensures ok { IfOk result (λ report. Delivered self.old changes report self.new) }
+        ensures err { OnErr result (self.new ≡ self.old) }
+    {
+        let pairs = hashed(alloc, changes.as_slice())?;
+        self.take(alloc, pairs)
+    }
+
+    /// Delivers changes that stand beside their own hashes. All that changes is made beside the old, which stays where it
+    /// is until nothing can fail any more.
+    fn take(
+        &mut self,
+        alloc: Global,
+        changes: Vec<(Hash, Change)>,
+    ) -> Result<Report, AllocError>
+        requires may_come { All MayCome (members_of (vec_items changes)) }
+        requires own_hashes { HasOwnHashes (members_of (vec_items changes)) }
+        ensures ok { IfOk result (λ report. Takes self.old (members_of (vec_items changes)) report self.new) }
+        ensures err { OnErr result (self.new ≡ self.old) }
+    {
+        keeps_what_came();
+        let mut waiting = map_copied(alloc, &self.waiting)?;
+        let graph = self.graph.copy(alloc)?;
+        let index = self.index.copy(alloc)?;
+        let mut growing = Growing::over(alloc, self.closed.as_slice(), graph, index);
+        let rejected = deliver(alloc, &mut growing, &mut waiting, changes)?;
+        let Growing {
+            old: _,
+            mut fresh,
+            graph,
+            index,
+        } = growing;
+        let report = Report {
+            added: fresh.len() as u64,
+            waiting: waiting.len() as u64,
+            rejected,
+        };
+        if self.closed.append(&mut fresh).is_err() {
+            return Err(AllocError);
+        }
+        self.waiting = waiting;
+        self.graph = graph;
+        self.index = index;
+        Ok(report)
+    }
+
+    /// The hashes of the waiting changes, ascending.
+    pub fn waiting(&self, alloc: Global) -> Result<List<Hash>, AllocError>
+        ensures hashes { IfOk result (λ waiting. waiting ≡ hashes self.now.waiting) }
+        ensures ascend { IfOk result (λ waiting. Ascends hash_cmp waiting) }
+    {
+        let _count = self.waiting.len();
+        let mut hashes = List::new(alloc);
+        for hash in self.waiting.keys() {
+            hashes.push(*hash)?;
+        }
+        Ok(hashes)
+    }
+
+    /// The graph of the closed set.
+    pub fn graph(&self) -> &Graph
+        ensures graph { result.now ≡ nodes self.now.closed }
+        ensures kept { IsKept self.now }
+    {
+        &self.graph
+    }
+
+    /// How much the store holds.
+    pub fn counts(&self) -> Counts
+        ensures { result ≡ counts_of self.now }
+    {
+        let totals = self.index.totals();
+        Counts {
+            changes: totals.changes,
+            operations: totals.operations,
+            preds: totals.preds,
+            links: totals.links,
+            waiting: self.waiting.len() as u64,
+        }
+    }
+
+    /// The changes of the closed set, in canonical order.
+    pub fn closed(&self, alloc: Global) -> Result<List<Change>, AllocError>
+        ensures { IfOk result (λ list. list ≡ changes (order self.now.closed)) }
+    {
+        let hashes = self.graph.order(alloc)?;
+        changes_with(
+            alloc,
+            &self.graph,
+            self.closed.as_slice(),
+            hashes.as_slice(),
+        )
+    }
+
+    /// The changes with these hashes and their ancestors, in the order in which they came.
+    pub fn ancestors(&self, alloc: Global, heads: &[Hash]) -> Result<List<Change>, ClockFault>
+        ensures ok { IfOk result (λ list. list ≡ changes (ancestors self.now.closed heads.now)) }
+        ensures held { OnOk result (All (λ h. holds self.now.closed h ≡ true) heads.now) }
+        ensures unknown { IfErr result (λ fault. MatchFault fault (λ h. find (λ k. not (holds self.now.closed k)) heads.now ≡ Some h)) }
+    {
+        let hashes = self.graph.ancestors(alloc, heads)?;
+        let list = changes_among(alloc, self.closed.as_slice(), hashes.as_slice())?;
+        Ok(list)
+    }
+}
+
+impl Twin for Store {
+    fn copy(&self, alloc: Global) -> Result<Store, AllocError> {
+        let closed = list_copied(alloc, self.closed.as_slice())?;
+        let waiting = map_copied(alloc, &self.waiting)?;
+        let graph = self.graph.copy(alloc)?;
+        let index = self.index.copy(alloc)?;
+        Ok(Store {
+            closed,
+            waiting,
+            graph,
+            index,
+        })
+    }
+}
