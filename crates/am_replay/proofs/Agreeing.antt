@@ -1,5 +1,5 @@
 -- Sorting placed entries gives the entries in document order.
-use Rattle.std.proofs.Common.{ℕ, ◌≡◌, List, [], ◌∷◌, map, filter, fold, Bool, true, false, cond, refl, sym, ap, ◌∙◌, subst, Contains, All, IsPermutation, inl, inr}
+use Rattle.std.proofs.Common.{◌≡◌, List, [], ◌∷◌, map, filter, fold, true, cond, refl, sym, ap, ◌∙◌, subst, Contains, All, inl, inr}
 use Rattle.std.specs.List.{position_or_len}
 use Rattle.std.specs.Ordering.{nat_cmp, ordering_then, on, is_gt}
 use Rattle.std.specs.declared.cmp.Ordering.{Ordering}
@@ -15,20 +15,17 @@ use Rattle.am_types.specs.declared.Key.TheVariants.{Name, Head, Elem}
 use Rattle.am_types.specs.Elements.{inserts_into, elements}
 use Rattle.am_types.specs.Order.{bytes_cmp, id_cmp, object_cmp, put_in_order, sorted_by}
 use Rattle.am_types.specs.Operations.{Operation, slot, ascending}
-use Rattle.am_types.specs.Places.{Place, place_cmp, slot_cmp}
+use Rattle.am_types.specs.Places.{place_cmp, slot_cmp}
 use Rattle.am_types.specs.Replay.{apply, entry_place, replay}
 use Rattle.am_types.specs.Same.{same_id, same_object}
 use Rattle.am_types.proofs.Ancestry.{Contains-filter}
 use Rattle.am_types.proofs.Lists.{Contains-head, Contains-tail}
-use Rattle.am_types.proofs.SameMembers.{Contains-cons_cases}
 use Rattle.am_types.proofs.Sorting.{IsPermutation-sorted_by}
 use Rattle.am_replay.specs.declared.placed.Placed.{Placed}
 use Rattle.am_replay.specs.Line.{line, elements_in, is_insertion, IsSlotHeld}
 use Rattle.am_replay.specs.Numbered.{operation_of}
 use Rattle.am_replay.specs.Placed.{key_rank, rank_cmp, slot_rank, entry_of_placed, placed_cmp, IsPlaced, entries_in}
-use Rattle.am_replay.specs.Rising.{Rise}
-use Rattle.am_replay.specs.Sound.{IsElementOf, AreElementsKnown, Sound}
-use Rattle.am_replay.specs.States.{kept}
+use Rattle.am_replay.specs.Sound.{IsElementOf, Sound}
 use Rattle.am_replay.proofs.Lines.{in_object, in_object_from, line_of_object, places_agree}
 use Rattle.am_replay.proofs.PlaceOrder.{object_exact, same_object_itself, then_equal}
 use Rattle.am_replay.proofs.Stable.{sorted_by-map}

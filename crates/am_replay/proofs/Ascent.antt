@@ -1,20 +1,16 @@
 -- Operations in ascending id.
-use Rattle.std.proofs.Common.{ℕ, zero, suc, ◌≡◌, ◌≢◌, ◌<◌, ◌≤◌, List, [], ◌∷◌, ◌++◌, length, get_or, take, map, filter, Bool, true, false, refl, sym, ap, ◌∙◌, subst, Contains, arith, inl, inr}
-use Rattle.std.specs.Bool.{⊤}
-use Rattle.std.specs.List.{AllByRecursion}
-use Rattle.std.specs.List.Sorted.{IsNonDecreasingBy}
-use Rattle.std.specs.Ordering.{is_lt, ordering_index, ordering_reverse}
-use Rattle.std.specs.declared.cmp.Ordering.{Ordering}
-use Rattle.std.specs.declared.cmp.Ordering.TheVariants.{Less, Equal, Greater}
-use Rattle.std.proofs.lemmas.Bool.{both_ways, cases_Bool}
+use Rattle.std.proofs.Common.{ℕ, zero, suc, ◌≡◌, ◌≢◌, ◌<◌, List, [], ◌∷◌, length, get_or, take, filter, Bool, true, false, refl, sym, ap, ◌∙◌, Contains, arith, inl, inr}
+use Rattle.std.specs.Ordering.{ordering_reverse}
+use Rattle.std.specs.declared.cmp.Ordering.TheVariants.{Less}
+use Rattle.std.proofs.lemmas.Bool.{cases_Bool}
 use Rattle.std.proofs.lemmas.Cmp.{tied_itself}
 use Rattle.am_types.specs.declared.OpId.{OpId}
 use Rattle.am_types.specs.Order.{id_cmp}
 use Rattle.am_types.specs.Same.{same_id}
 use Rattle.am_types.specs.Operations.{Operation}
 use Rattle.am_types.proofs.SameMembers.{Contains-cons_cases}
-use Rattle.am_types.proofs.Orders.{id_total, id_exact, same_id-true, same_id_itself}
-use Rattle.am_replay.specs.Rising.{Rise, IsBelow, HasAt, HasNone}
+use Rattle.am_types.proofs.Orders.{id_total, same_id-true}
+use Rattle.am_replay.specs.Rising.{Rise, IsBelow}
 
 -- ---- ids
 

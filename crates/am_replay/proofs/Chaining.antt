@@ -1,6 +1,5 @@
 -- The line of elements, as the code builds and numbers it.
-use Rattle.std.proofs.Common.{ℕ, zero, suc, ◌≡◌, ◌≢◌, ◌<◌, ◌≤◌, ◌+◌, List, [], ◌∷◌, ◌++◌, length, get_or, set, take, map, filter, fold, replicate, Option, Some, None, Bool, true, false, cond, refl, sym, ap, ◌∙◌, subst, Contains, inl, inr, arith}
-use Rattle.std.specs.Bool.{⊤}
+use Rattle.std.proofs.Common.{ℕ, zero, suc, ◌≡◌, ◌<◌, ◌≤◌, ◌+◌, List, [], ◌∷◌, ◌++◌, length, get_or, set, take, map, fold, replicate, Option, Some, None, Bool, true, false, cond, refl, sym, ap, ◌∙◌, subst, Contains, inl, inr, arith}
 use Rattle.std.proofs.lemmas.List.{length-map}
 use Rattle.std.specs.List.{AllByRecursion, position_from, position_or_len}
 use Rattle.std.specs.Option.{unwrap_or, is_some}
@@ -16,12 +15,12 @@ use Rattle.am_types.specs.Elements.{put_after, put_at}
 use Rattle.am_types.specs.Order.{id_cmp}
 use Rattle.am_types.specs.Same.{same_id}
 use Rattle.am_types.specs.Operations.{Operation}
-use Rattle.am_types.proofs.Orders.{id_total, same_id_itself, same_id-true}
+use Rattle.am_types.proofs.Orders.{id_total, same_id_itself}
 use Rattle.am_types.proofs.SameMembers.{Contains-cons_cases}
 use Rattle.am_replay.specs.declared.numbered.Numbered.{Numbered}
 use Rattle.am_replay.specs.Numbered.{operation_of, ids_of}
 use Rattle.am_replay.specs.Rising.{Rise, IsBelow, HasAt, HasNone}
-use Rattle.am_replay.specs.Line.{put, is_insertion, places_of, IsAnchoredIn, AreAnchored}
+use Rattle.am_replay.specs.Line.{put, places_of, IsAnchoredIn, AreAnchored}
 use Rattle.am_replay.proofs.Ascent.{apart, less_apart, less_back, below_at}
 use Rattle.am_replay.proofs.Found.{read_operation}
 

@@ -1,23 +1,22 @@
 -- Finding an operation by its id.
-use Rattle.std.proofs.Common.{ℕ, zero, suc, ◌≡◌, ◌≢◌, ◌<◌, ◌≤◌, ◌+◌, List, [], ◌∷◌, length, get_or, map, Option, Some, None, option_map, true, false, refl, sym, ap, ◌∙◌, subst, Contains, inl, inr, arith}
-use Rattle.std.specs.Bool.{⊤}
+use Rattle.std.proofs.Common.{ℕ, zero, suc, ◌≡◌, ◌≢◌, ◌<◌, ◌+◌, List, [], ◌∷◌, length, get_or, map, Option, Some, None, true, false, refl, sym, ap, ◌∙◌, Contains, inl, inr, arith}
 use Rattle.std.proofs.lemmas.List.{length-map}
-use Rattle.std.specs.List.{AllByRecursion, All, AllWithin, HoldsAt, slice_get}
+use Rattle.std.specs.List.{AllByRecursion, HoldsAt}
 use Rattle.std.specs.List.Sorted.{IsSortedBy, IsPartitionPoint, IsNonDecreasingBy}
-use Rattle.std.specs.Option.{unwrap_or}
+use Rattle.std.specs.Option.{is_some}
 use Rattle.std.specs.Ordering.{is_lt, ordering_index, ordering_reverse}
-use Rattle.std.specs.declared.cmp.Ordering.{Ordering}
 use Rattle.std.specs.declared.cmp.Ordering.TheVariants.{Less, Equal, Greater}
 use Rattle.std.proofs.Math.ListN.{get_or-map}
-use Rattle.std.proofs.lemmas.Bool.{cases_lt}
+use Rattle.std.proofs.lemmas.Bool.{both_ways, cases_lt}
 use Rattle.std.proofs.lemmas.Cmp.{tied_itself}
 use Rattle.std.proofs.lemmas.List.Elements.{recursion_from_All, All-from_recursion, All-contains}
 use Rattle.std.proofs.lemmas.List.Sorted.{searchable_from_sorted}
 use Rattle.am_types.specs.declared.OpId.{OpId}
 use Rattle.am_types.specs.declared.Key.{Key}
-use Rattle.am_types.specs.declared.Key.TheVariants.{Head, Elem}
+use Rattle.am_types.specs.declared.Key.TheVariants.{Elem}
 use Rattle.am_types.specs.Order.{id_cmp}
 use Rattle.am_types.specs.Operations.{Operation}
+use Rattle.am_types.proofs.Lists.{Contains-head, Contains-tail}
 use Rattle.am_types.proofs.Orders.{id_total, id_exact}
 use Rattle.am_chain.specs.Sequences.{key_of_node}
 use Rattle.am_replay.specs.declared.numbered.Numbered.{Numbered}
@@ -62,7 +61,7 @@ sorted_from_rise ns rise k d low high =
     let b = get_or-map operation_of ns (k + 1) d in
     let same : length (map operation_of ns) ≡ length ns = length-map ns operation_of in
     let less : id_cmp (get_or (map operation_of ns) k (operation_of d)).id (get_or (map operation_of ns) (k + 1) (operation_of d)).id ≡ Less =
-        rise_at (map operation_of ns) rise k (k + 1) (operation_of d) (omega arith) (omega arith) in
+    rise_at (map operation_of ns) rise k (k + 1) (operation_of d) (omega arith) (omega arith) in
     less_not_back (operation_of (get_or ns k d)).id (operation_of (get_or ns (k + 1) d)).id (sym (λ t. id_cmp (a t).id (b t).id) ∙ less)
 
 pub none_found : (ns : List Numbered) (i : OpId) (at : ℕ) → Rise (map operation_of ns)
@@ -89,3 +88,18 @@ read_operation ns k n e = ap operation_of e ∙ sym (get_or-map operation_of ns 
 
 pub in_list : (ns : List Numbered) (k : ℕ) (n : Numbered) → k < length ns → n ≡ get_or ns k n → Contains (map operation_of ns) (operation_of n)
 in_list ns k n l e = (k, simp length-map l, sym (read_operation ns k n e))
+
+-- the operation that was found
+pub found_is : (ns : List Numbered) (i : OpId) (k : ℕ) (n : Numbered) → HasAt (map operation_of ns) i k → n ≡ get_or ns k n → Contains (map operation_of ns) (operation_of n) × ((operation_of n).id ≡ i)
+found_is ns i k n at is = ((k, at.0, sym (read_operation ns k n is)), ap (λ (x : Operation). x.id) (read_operation ns k n is) ∙ at.1 (operation_of n))
+
+held_at : (A : List Operation) (i : OpId) (k : ℕ) → HasAt A i k → IsHeld A i
+held_at [] i k at = absurd (omega (arith, at.0))
+held_at (x ∷ A) i zero at = (x, Contains-head x A, at.1 x)
+held_at (x ∷ A) i (suc k) at =
+    let f : IsHeld A i = held_at A i k (let l = at.0 in omega arith, λ d. at.1 d) in
+    (f.0, Contains-tail x A f.0 f.1, f.2)
+
+pub found_held : (A : List Operation) (i : OpId) (r : Option ℕ) → IsFound A i r → is_some r ≡ true → IsHeld A i
+found_held A i None found e = absurd (both_ways false refl e)
+found_held A i (Some k) found e = held_at A i k found

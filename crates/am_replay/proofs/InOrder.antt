@@ -1,9 +1,8 @@
 -- The entries of a valid set are in order.
-use Rattle.std.proofs.Common.{ℕ, zero, suc, ◌≡◌, ◌≢◌, ◌<◌, ◌≤◌, ◌+◌, ◌&&◌, ◌||◌, not, Bool, true, false, List, [], ◌∷◌, ◌++◌, length, get_or, take, filter, fold, Option, Some, None, refl, sym, ap, ◌∙◌, subst, Contains, All, inl, inr, arith}
-use Rattle.std.specs.Bool.{⊤}
+use Rattle.std.proofs.Common.{ℕ, zero, suc, ◌≡◌, ◌≤◌, ◌+◌, not, true, false, List, [], ◌∷◌, ◌++◌, length, get_or, take, filter, fold, Option, Some, None, refl, sym, ap, ◌∙◌, subst, Contains, All, inl, inr, arith}
 use Rattle.std.specs.Cmp.{IsTotalOrder}
 use Rattle.std.specs.List.{AllByRecursion, list_all, position_or_len}
-use Rattle.std.specs.Ordering.{nat_cmp, ordering_then, ordering_reverse, then_cmp, on, is_le, is_lt}
+use Rattle.std.specs.Ordering.{ordering_then, ordering_reverse, then_cmp, on, is_le, is_lt}
 use Rattle.std.specs.declared.cmp.Ordering.{Ordering}
 use Rattle.std.specs.declared.cmp.Ordering.TheVariants.{Less, Equal, Greater}
 use lib.IntN.{ℤ}
@@ -11,8 +10,8 @@ use Rattle.std.proofs.lemmas.Bool.{cases_Bool, both_ways, and_from, and_parts, o
 use Rattle.std.proofs.lemmas.Cmp.{nat_list_eq_equiv, on_total, then_total, tied_itself}
 use Rattle.std.proofs.lemmas.List.{append_assoc, append-nil, take_more}
 use Rattle.std.proofs.Math.Seq.{take-length}
-use Rattle.std.proofs.lemmas.List.Elements.{Contains-push_cases, recursion_from_All, All-from_recursion, All-head, All-tail}
-use Rattle.std.proofs.lemmas.List.Sums.{fold-append, passes_at_first}
+use Rattle.std.proofs.lemmas.List.Elements.{Contains-push_cases, recursion_from_All, All-from_recursion}
+use Rattle.std.proofs.lemmas.List.Sums.{fold-append}
 use Rattle.std.proofs.lemmas.List.Sorted.{All-permutation}
 use Rattle.std.proofs.lemmas.Map.Lookups.{exact_unsigned, exact_bytes}
 use Rattle.am_types.specs.declared.OpId.{OpId}
@@ -20,7 +19,7 @@ use Rattle.am_types.specs.declared.ObjId.{ObjId}
 use Rattle.am_types.specs.declared.Entry.{Entry}
 use Rattle.am_types.specs.declared.Key.{Key}
 use Rattle.am_types.specs.declared.Key.TheVariants.{Name, Head, Elem}
-use Rattle.am_types.specs.Elements.{put_after, put_at, inserts_into}
+use Rattle.am_types.specs.Elements.{put_after, put_at}
 use Rattle.am_types.specs.Operations.{Operation, slot, all_operations, ascending}
 use Rattle.am_types.specs.Order.{bytes_cmp, id_cmp, object_cmp, sorted_by}
 use Rattle.am_types.specs.Places.{Place, place_cmp, slot_cmp}
@@ -28,11 +27,11 @@ use Rattle.am_types.specs.Replay.{apply, entry_place}
 use Rattle.am_types.specs.Same.{same_bytes, same_id, same_key, same_object}
 use Rattle.am_types.proofs.Ancestry.{Contains-filter}
 use Rattle.am_types.proofs.Lists.{Contains-head, Contains-tail}
-use Rattle.am_types.proofs.Orders.{id_total, id_exact, same_id-true, same_id_itself}
+use Rattle.am_types.proofs.Orders.{id_total, same_id-true, same_id_itself}
 use Rattle.am_types.proofs.SameLaws.{same_key-true}
 use Rattle.am_types.proofs.SameMembers.{Contains-cons_cases}
 use Rattle.am_types.proofs.Sorting.{IsPermutation-sorted_by}
-use Rattle.am_replay.specs.Laws.{shares_slot, may_precede, is_followed, goes_before, is_in_order, EntriesAreInOrder}
+use Rattle.am_replay.specs.Laws.{shares_slot, may_precede, goes_before, is_in_order, EntriesAreInOrder}
 use Rattle.am_replay.specs.Line.{put, is_insertion, line, elements_in, AreAnchored, IsAnchoredIn}
 use Rattle.am_replay.specs.Placed.{Rank, rank_cmp, key_rank, entries_in}
 use Rattle.am_replay.specs.Rising.{Rise, IsBelow}
@@ -127,10 +126,10 @@ line_has E anchored (suc k) l y c =
     let more : take (suc k) E ≡ take k E ++ x ∷ [] = ap (λ m. take m E) n ∙ take_more E k y (omega arith) in
     let last : fold put [] (take (suc k) E) ≡ put (fold put [] (take k E)) x = ap (fold put []) more ∙ fold-append put [] (take k E) (x ∷ []) in
     subst (λ W. Contains W y.id) (sym last) (
-      elim (Contains-push_cases (take k E) x y (subst (λ l. Contains l y) more c)) [
-        | inl old ↦ put_keeps x.op.key x.id (fold put [] (take k E)) y.id (again y old)
-        | inr new ↦ subst (λ (z : Operation). Contains (put (fold put [] (take k E)) x) z.id) new (own again x x.op.key (anchored k y (omega arith)))
-      ])
+    elim (Contains-push_cases (take k E) x y (subst (λ l. Contains l y) more c)) [
+      | inl old ↦ put_keeps x.op.key x.id (fold put [] (take k E)) y.id (again y old)
+      | inr new ↦ subst (λ (z : Operation). Contains (put (fold put [] (take k E)) x) z.id) new (own again x x.op.key (anchored k y (omega arith)))
+    ])
   where
     own : ((z : Operation) → Contains (take k E) z → Contains (fold put [] (take k E)) z.id) → (x : Operation) (q : Key) → IsAnchoredIn (take k E) q → Contains (put_at q x.id (fold put [] (take k E))) x.id
     own again x Head a = Contains-head x.id (fold put [] (take k E))

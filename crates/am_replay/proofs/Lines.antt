@@ -1,13 +1,10 @@
 -- The elements of each object stand in the line of all in their order.
-use Rattle.std.proofs.Common.{ℕ, zero, suc, ◌≡◌, ◌<◌, ◌+◌, ◌&&◌, List, [], ◌∷◌, length, filter, fold, Bool, true, false, not, cond, refl, sym, ap, ◌∙◌, subst, Contains, inl, inr, arith}
-use Rattle.std.specs.Bool.{⊤}
+use Rattle.std.proofs.Common.{ℕ, ◌≡◌, ◌+◌, ◌&&◌, List, [], ◌∷◌, filter, fold, Bool, true, false, refl, sym, ap, ◌∙◌, subst, Contains, inl, inr, arith}
 use Rattle.std.specs.List.{AllByRecursion, list_any, position_or_len}
 use Rattle.std.specs.Ordering.{nat_cmp}
-use Rattle.std.specs.declared.cmp.Ordering.{Ordering}
 use Rattle.std.specs.declared.cmp.Ordering.TheVariants.{Less, Equal, Greater}
 use Rattle.std.specs.Cmp.{nat_cmp_is}
-use Rattle.std.proofs.lemmas.Bool.{cases_Bool, cases_order, both_ways, and_from, and_parts, or_left, lt-ltb, le-ltb, eq-eqb, ne_eqb}
-use Rattle.std.proofs.lemmas.Cmp.{tied_itself, ranked}
+use Rattle.std.proofs.lemmas.Bool.{cases_Bool, cases_order, and_from, and_parts}
 use Rattle.std.proofs.lemmas.List.Elements.{recursion_from_All}
 use Rattle.std.proofs.lemmas.List.Folds.{list_any-from_Any, Any-from_list_any}
 use Rattle.am_types.specs.declared.OpId.{OpId}
@@ -21,12 +18,11 @@ use Rattle.am_types.proofs.Orders.{same_id-true, same_id_itself}
 use Rattle.am_types.proofs.Ancestry.{Contains-from_filter}
 use Rattle.am_types.proofs.Lists.{all_of, Contains-head, Contains-tail}
 use Rattle.am_types.proofs.Growth.{same_answers}
-use Rattle.am_types.proofs.SameMembers.{Contains-cons_cases}
 use Rattle.am_replay.specs.Rising.{Rise}
 use Rattle.am_replay.specs.Line.{put, is_insertion, line, elements_in}
 use Rattle.am_replay.specs.Sound.{IsElementOf, AreElementsKnown}
 use Rattle.am_replay.proofs.Ascent.{one_operation}
-use Rattle.am_replay.proofs.PlaceOrder.{same_object-true, same_object_itself}
+use Rattle.am_replay.proofs.PlaceOrder.{same_object-true}
 
 -- ---- the elements that a test passes
 

@@ -1,5 +1,5 @@
 -- The order of placed entries is total, and is that of a document.
-use Rattle.std.proofs.Common.{ℕ, ◌≡◌, List, [], refl, ap, ◌∙◌, subst, true}
+use Rattle.std.proofs.Common.{ℕ, ◌≡◌, [], refl, ap, subst, true}
 use Rattle.std.specs.Cmp.{IsTotalOrder}
 use Rattle.std.specs.Ordering.{nat_cmp, ordering_then, then_cmp, on, is_eq}
 use Rattle.std.specs.declared.cmp.Ordering.{Ordering}

@@ -1,21 +1,18 @@
 -- What an operation does to the states of those before it, as the code goes.
-use Rattle.std.proofs.Common.{ℕ, zero, suc, ◌≡◌, ◌≢◌, ◌<◌, ◌≤◌, ◌*◌, ◌+◌, ◌^◌, ◌==◌, ◌||◌, ◌&&◌, not, Bool, true, false, cond, List, [], ◌∷◌, ◌++◌, length, get_or, set, take, filter, fold, map, Option, Some, None, refl, sym, ap, ◌∙◌, subst, inl, inr, arith, length-append, length-take}
-use Rattle.std.specs.Bool.{⊤}
+use Rattle.std.proofs.Common.{ℕ, zero, suc, ◌≡◌, ◌<◌, ◌+◌, ◌==◌, ◌||◌, ◌&&◌, not, true, false, cond, List, [], ◌∷◌, ◌++◌, length, get_or, set, take, filter, fold, map, Option, Some, None, refl, sym, ap, ◌∙◌, subst, inl, inr, arith, length-append, length-take}
 use Rattle.std.specs.List.{AllByRecursion}
-use Rattle.std.specs.Option.{option_map}
-use lib.IntN.{ℤ, pos, ◌+ℤ◌}
-use Rattle.std.proofs.lemmas.Bool.{cases_Bool, both_ways, or_left, or_right, or_from, or_parts, or_cases, and_parts, eqb-true}
+use lib.IntN.{ℤ, ◌+ℤ◌}
+use Rattle.std.proofs.lemmas.Bool.{cases_Bool, both_ways, or_left, or_right, or_from, eqb-true}
 use Rattle.std.proofs.lemmas.List.{append-nil, get_or_default, length-map, length-take-le, map_more, take_more}
 use Rattle.std.proofs.lemmas.List.Sums.{fold-append}
 use Rattle.std.proofs.lemmas.Cmp.{eq_by_cmp_equiv}
 use Rattle.am_types.specs.declared.OpId.{OpId}
-use Rattle.am_types.specs.declared.Entry.{Entry}
 use Rattle.am_types.specs.Actions as actions
 use Rattle.am_types.specs.Order.{id_cmp, among}
 use Rattle.am_types.specs.Same.{same_id}
 use Rattle.am_types.specs.Values.{amount}
 use Rattle.am_types.specs.Operations.{Operation}
-use Rattle.am_types.specs.Replay.{apply, entry_of, increment, incremented, is_counter_entry, remove_preds}
+use Rattle.am_types.specs.Replay.{apply, entry_of, increment, remove_preds}
 use Rattle.am_types.proofs.Orders.{id_total, same_id_itself}
 use Rattle.am_replay.specs.declared.numbered.Numbered.{Numbered}
 use Rattle.am_replay.specs.Numbered.{operation_of}
@@ -195,7 +192,7 @@ pub states_more : (ns : List Numbered) (k : ℕ) (n : Numbered) (ss ts : List (O
     → kept (map operation_of (take (k + 1) ns)) ts ≡ fold apply [] (map operation_of (take (k + 1) ns))
 states_more ns k n ss ts l is len before after =
     let more : map operation_of (take (k + 1) ns) ≡ map operation_of (take k ns) ++ operation_of n ∷ [] =
-        map_more operation_of ns k n l ∙ ap (λ m. map operation_of (take k ns) ++ operation_of m ∷ []) (sym is) in
+    map_more operation_of ns k n l ∙ ap (λ m. map operation_of (take k ns) ++ operation_of m ∷ []) (sym is) in
     let count : length ss ≡ length (map operation_of (take k ns)) = simp (length-map, length-take) (omega arith) in
     (λ i. kept (more i) (after i))
     ∙ kept_next (operation_of n) (map operation_of (take k ns)) ss count

@@ -1,10 +1,10 @@
 -- The operations of a valid set, in ascending id, can be read.
-use Rattle.std.proofs.Common.{ℕ, zero, suc, ◌≡◌, ◌≢◌, ◌<◌, ◌≤◌, ◌+◌, ◌-◌, ◌^◌, ◌&&◌, nat_lt, List, [], ◌∷◌, ◌++◌, length, get_or, take, filter, sum_by, Bool, true, false, Option, Some, None, refl, sym, ap, ◌∙◌, subst, Contains, All, AllPairs, IsPermutation, inl, inr, ◌⊎◌, arith}
-use Rattle.std.specs.Bool.{⊤, then_some}
+use Rattle.std.proofs.Common.{ℕ, suc, ◌≡◌, ◌≢◌, ◌<◌, ◌≤◌, ◌+◌, ◌-◌, ◌^◌, ◌&&◌, nat_lt, List, [], ◌∷◌, length, get_or, take, filter, sum_by, Bool, true, false, Option, Some, None, refl, sym, ap, ◌∙◌, subst, Contains, All, inl, inr, arith}
+use Rattle.std.specs.Bool.{then_some}
 use Rattle.std.specs.List.{AllByRecursion}
 use Rattle.std.specs.Option.{option_or}
 use Rattle.std.specs.Cmp.{nat_cmp_is}
-use Rattle.std.specs.Ordering.{is_gt, nat_cmp, ordering_then, ordering_reverse}
+use Rattle.std.specs.Ordering.{is_gt, nat_cmp, ordering_reverse}
 use Rattle.std.specs.declared.cmp.Ordering.{Ordering}
 use Rattle.std.specs.declared.cmp.Ordering.TheVariants.{Less, Equal, Greater}
 use Rattle.std.proofs.lemmas.Bool.{cases_Bool, cases_order, both_ways, and_parts, and_from, ltb-false}
@@ -13,7 +13,7 @@ use Rattle.std.proofs.lemmas.List.{get_or-take, get_or_default, length-take-le}
 use Rattle.std.proofs.lemmas.List.Concat.{length-flat_map}
 use Rattle.std.proofs.lemmas.List.Sums.{sum_by-cons}
 use Rattle.std.proofs.lemmas.List.Folds.{Any-from_list_any}
-use Rattle.std.proofs.lemmas.List.Elements.{recursion_from_All, All-contains, All-get_or, All-map, Contains-get_or, Contains-append_left, Contains-append_right}
+use Rattle.std.proofs.lemmas.List.Elements.{recursion_from_All, All-get_or, All-map, Contains-get_or, Contains-append_left, Contains-append_right}
 use Rattle.std.proofs.lemmas.List.Sorted.{All-permutation, Contains-permutation, IsPermutation-sym, length_permutation}
 use Rattle.am_types.specs.declared.OpId.{OpId}
 use Rattle.am_types.specs.declared.ObjId.{ObjId}
@@ -23,28 +23,28 @@ use Rattle.am_types.specs.declared.Op.{Op}
 use Rattle.am_types.specs.declared.Change.{Change}
 use Rattle.am_types.specs.declared.Limit.{Limit}
 use Rattle.am_types.specs.Elements.{inserts_into}
-use Rattle.am_types.specs.Fine.{FineOp, GoodNumbers, IsListPlace, pred_count}
+use Rattle.am_types.specs.Fine.{FineOp, GoodNumbers, IsListPlace}
 use Rattle.am_types.specs.Members.{Member, changes}
 use Rattle.am_types.specs.Ancestors.{ancestors}
 use Rattle.am_types.specs.Operations.{Operation, numbered, operations, all_operations, operation_cmp, ascending, DistinctIds}
-use Rattle.am_types.specs.Order.{id_cmp, put_in_order, sorted_by, Ascends}
+use Rattle.am_types.specs.Order.{id_cmp, put_in_order, Ascends}
 use Rattle.am_types.specs.References.{element_known}
 use Rattle.am_types.specs.Same.{same_id, same_object}
 use Rattle.am_types.specs.ValidSets.{Valid, IsValidSet}
-use Rattle.am_types.specs.Verdicts.{first_some, above, limit_passed}
+use Rattle.am_types.specs.Verdicts.{above, limit_passed}
 use Rattle.am_types.proofs.Ancestry.{Contains-filter, Contains-from_filter}
 use Rattle.am_types.proofs.DistinctIds.{ancestor_is_member, numbered_at, operation_of}
 use Rattle.am_types.proofs.DistinctOperations.{distinct_ids_valid}
-use Rattle.am_types.proofs.Grounds.{Grounds, Placed, placed}
+use Rattle.am_types.proofs.Grounds.{Grounds, placed}
 use Rattle.am_types.proofs.Lists.{all_of}
 use Rattle.am_types.proofs.Orders.{id_total, id_exact, same_id-true}
 use Rattle.am_types.proofs.Rules.{keeps_rules}
 use Rattle.am_types.proofs.SameMembers.{Contains-cons_cases}
 use Rattle.am_types.proofs.Sorting.{IsPermutation-sorted_by}
 use Rattle.am_types.proofs.ValidSetLaws.{grounds_valid}
-use Rattle.am_replay.specs.Line.{is_insertion, AreAnchored, IsAnchoredIn, IsHeld}
+use Rattle.am_replay.specs.Line.{is_insertion, AreAnchored, IsAnchoredIn}
 use Rattle.am_replay.specs.Rising.{Rise, IsBelow}
-use Rattle.am_replay.specs.Sound.{Sound, HasRoom, IsElementOf, AreElementsKnown, HaveDistinctPreds}
+use Rattle.am_replay.specs.Sound.{Sound, HasRoom}
 use Rattle.am_replay.specs.States.{AreDistinct}
 use Rattle.am_replay.proofs.Ascent.{less_apart, rise_at, rise_filter}
 
@@ -184,8 +184,7 @@ module _ (C : List Member) (v : Valid C) where
       let y = a.1 in
       let parts = and_parts (same_id y.id r && y.op.insert) (same_object y.op.obj x.op.obj) a.4 in
       let first = and_parts (same_id y.id r) y.op.insert parts.0 in
-      let from = p.before.from y (a.0, a.2, a.3) in
-      (
+      let from = p.before.from y (a.0, a.2, a.3) in (
         y,
         elim from.0 [
           | inl k ↦ let o = operation_of (ancestors C p.of.change.deps) y k in operation_in C o.0 y (ancestor_is_member C p.of.change.deps o.0 o.1) o.2

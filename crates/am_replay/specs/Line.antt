@@ -3,7 +3,7 @@
 --     elements_in A o    the elements of o, where A ascends
 --     AreAnchored E      each of the insertions E is first, or refers to one before it
 --     IsLine A l         l has the insertions among A and their places in the line
-use Rattle.std.specs.Prelude.{ℕ, ◌≡◌, ◌<◌, Bool, Contains, List, [], ◌∷◌, length, take, filter, fold, map, Option, slice_index_or, ⊤}
+use Rattle.std.specs.Prelude.{ℕ, ◌≡◌, ◌<◌, Bool, Contains, List, [], length, take, filter, fold, map, Option, slice_index_or, ⊤}
 use Rattle.std.specs.List.{position_from}
 use Rattle.am_types.specs.declared.OpId.{OpId}
 use Rattle.am_types.specs.declared.ObjId.{ObjId}

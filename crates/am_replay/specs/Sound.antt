@@ -3,7 +3,7 @@
 --     HaveDistinctPreds A     no operation of A names a predecessor twice
 --     AreElementsKnown A      what an operation of A names as an element was inserted by one of A into the same object
 --     Sound A                 all that is asked
-use Rattle.std.specs.Prelude.{ℕ, ◌≡◌, ◌≤◌, ◌<◌, ◌+◌, ◌^◌, true, List, length, filter, Contains}
+use Rattle.std.specs.Prelude.{◌≡◌, ◌≤◌, ◌<◌, ◌+◌, ◌^◌, true, List, length, filter, Contains}
 use Rattle.am_types.specs.declared.OpId.{OpId}
 use Rattle.am_types.specs.declared.ObjId.{ObjId}
 use Rattle.am_types.specs.declared.Key.TheVariants.{Elem}

@@ -9,6 +9,7 @@ ghost use Rattle.am_replay.specs.Line.{AreAnchored, IsAnchoredIn};
 ghost use Rattle.am_replay.specs.Numbered.{operation_of};
 ghost use Rattle.am_replay.specs.Rising.{Rise};
 ghost use Rattle.am_replay.specs.Sound.{AreElementsKnown, HasRoom, HaveDistinctPreds, IsElementOf, Sound};
+ghost use Rattle.am_replay.specs.States.{AreDistinct};
 
 use crate::line::insertions;
 use crate::numbered::{Numbered, find, gather, sort_operations};
@@ -25,8 +26,8 @@ fn has_room(change: &Change) -> bool
 fn have_room(changes: &[Change]) -> bool
     ensures { result ≡ true → All HasRoom changes.now }
 {
-    for change in changes {
-        if !has_room(change) {
+    for i in 0..changes.len() {
+        if !has_room(&changes[i]) {
             return false;
         }
     }
@@ -54,11 +55,17 @@ fn rise(alloc: Global, operations: &[Numbered<'_>]) -> Result<bool, AllocError>
     Ok(ascend(ids.as_slice()))
 }
 
+fn has_distinct_preds(x: &Numbered<'_>) -> bool
+    ensures { result ≡ true → AreDistinct (operation_of x.now).op.preds }
+{
+    ascend(x.op.preds.as_slice())
+}
+
 fn have_distinct_preds(operations: &[Numbered<'_>]) -> bool
     ensures { result ≡ true → HaveDistinctPreds (map operation_of operations.now) }
 {
-    for x in operations {
-        if !ascend(x.op.preds.as_slice()) {
+    for i in 0..operations.len() {
+        if !has_distinct_preds(&operations[i]) {
             return false;
         }
     }
@@ -85,8 +92,8 @@ fn know_elements(operations: &[Numbered<'_>]) -> bool
     requires { Rise (map operation_of operations.now) }
     ensures { result ≡ true → AreElementsKnown (map operation_of operations.now) }
 {
-    for x in operations {
-        if !knows_element(operations, x) {
+    for i in 0..operations.len() {
+        if !knows_element(operations, &operations[i]) {
             return false;
         }
     }
@@ -122,8 +129,11 @@ fn is_sound(alloc: Global, operations: &[Numbered<'_>]) -> Result<bool, AllocErr
     if operations.len() > 1 << 22 || !rise(alloc, operations)? {
         return Ok(false);
     }
+    if !have_distinct_preds(operations) || !know_elements(operations) {
+        return Ok(false);
+    }
     let elements = insertions(alloc, operations)?;
-    Ok(have_distinct_preds(operations) && know_elements(operations) && are_anchored(elements.as_slice()))
+    Ok(are_anchored(elements.as_slice()))
 }
 
 /// What replay gives of the changes, unless it is found that they are no valid set.

@@ -24,7 +24,10 @@ pub struct Line<'a> {
 }
 
 /// The insertions among the operations.
-pub fn insertions<'a>(alloc: Global, operations: &[Numbered<'a>]) -> Result<Vec<Numbered<'a>>, AllocError>
+pub fn insertions<'a>(
+    alloc: Global,
+    operations: &[Numbered<'a>],
+) -> Result<Vec<Numbered<'a>>, AllocError>
     ensures { IfOk result (λ found. map operation_of found.items ≡ filter is_insertion (map operation_of operations.now)) }
 {
     let mut found = Vec::new(alloc);
@@ -85,7 +88,11 @@ fn note(elements: &[Numbered<'_>], places: &mut Vec<Option<u64>>, id: IdRef<'_>,
 }
 
 // The place of each element on the way along the chain, and how many there are.
-fn number(alloc: Global, elements: &[Numbered<'_>], chain: &Chain) -> Result<(Vec<Option<u64>>, u64), AllocError>
+fn number(
+    alloc: Global,
+    elements: &[Numbered<'_>],
+    chain: &Chain,
+) -> Result<(Vec<Option<u64>>, u64), AllocError>
     requires rise { Rise (map operation_of elements.now) }
     requires few { length chain.now.walk ≤ 2 ^ 22 }
     ensures places { IfOk result (λ r. r.0.items ≡ places_of chain.now.walk elements.now) }

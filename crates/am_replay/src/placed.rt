@@ -50,7 +50,12 @@ fn slot_of<'a>(places: &Line<'_>, x: Numbered<'a>) -> Slot<'a>
 }
 
 // The entries that are left, with the places of their slots, in ascending id.
-fn place_all<'a>(alloc: Global, operations: &[Numbered<'a>], states: &[Option<i128>], places: &Line<'_>) -> Result<Vec<Placed<'a>>, AllocError>
+fn place_all<'a>(
+    alloc: Global,
+    operations: &[Numbered<'a>],
+    states: &[Option<i128>],
+    places: &Line<'_>,
+) -> Result<Vec<Placed<'a>>, AllocError>
     requires count { length states.now ≡ length operations.now }
     requires sound { Sound (map operation_of operations.now) }
     requires line { IsLine (map operation_of operations.now) places.now }

@@ -43,7 +43,13 @@ fn hit(x: &Numbered<'_>, more: i128, y: &Numbered<'_>, state: Option<i128>) -> O
 }
 
 // The states after x hit the operation with this id, which it hadn't hit yet.
-fn hit_one(x: &Numbered<'_>, more: i128, before: &[Numbered<'_>], pred: &OpId, states: &mut Vec<Option<i128>>)
+fn hit_one(
+    x: &Numbered<'_>,
+    more: i128,
+    before: &[Numbered<'_>],
+    pred: &OpId,
+    states: &mut Vec<Option<i128>>,
+)
     requires more { more ≡ amount (operation_of x.now).op.value }
     requires bounded { IsBounded 1 more }
     requires rise { Rise (map operation_of before.now) }
@@ -100,7 +106,11 @@ fn first(x: &Numbered<'_>, more: i128) -> Option<i128>
 }
 
 // The states after x, its own last.
-fn apply(x: &Numbered<'_>, before: &[Numbered<'_>], states: &mut Vec<Option<i128>>) -> Result<(), AllocError>
+fn apply(
+    x: &Numbered<'_>,
+    before: &[Numbered<'_>],
+    states: &mut Vec<Option<i128>>,
+) -> Result<(), AllocError>
     requires rise { Rise (map operation_of before.now) }
     requires distinct { AreDistinct (operation_of x.now).op.preds }
     requires count { length states.old.items ≡ length before.now }

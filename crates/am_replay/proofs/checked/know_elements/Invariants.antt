@@ -3,5 +3,5 @@ use Rattle.am_replay.specs.Numbered.{operation_of}
 use Rattle.am_replay.proofs.Checking.{KnowsElement}
 use Rattle.am_replay.proofs.checked.know_elements.Given as goal
 
-abbrev pub invariant-loop-x : goal.invariant-loop-x
-invariant-loop-x l = All (λ n. KnowsElement (map operation_of l.operations) (operation_of n)) (take l.x-index l.operations)
+abbrev pub invariant-loop-i : goal.invariant-loop-i
+invariant-loop-i l = All (λ n. KnowsElement (map operation_of l.operations) (operation_of n)) (take l.i l.operations)

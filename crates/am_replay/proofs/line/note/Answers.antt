@@ -1,5 +1,4 @@
-use Rattle.std.proofs.Common.{◌≡◌, ◌∙◌, ap, sym, not, Bool, true, false}
-use Rattle.std.specs.Option.{is_some}
+use Rattle.std.proofs.Common.{◌≡◌, ◌∙◌, ap, not, Bool, true, false}
 use Rattle.am_types.specs.Views.{id_of}
 use Rattle.am_replay.proofs.Chaining.{note_there, keep_there, places_nothing}
 use Rattle.am_replay.proofs.line.note.Goals as goal

@@ -1,7 +1,7 @@
-use Rattle.std.proofs.Common.{◌≡◌, ◌∙◌, map, get_or, ap, sym, subst}
+use Rattle.std.proofs.Common.{◌∙◌, map, get_or, ap, subst}
 use Rattle.std.specs.Option.{unwrap_or}
 use Rattle.am_types.specs.Views.{id_of}
-use Rattle.am_replay.specs.Line.{line, places_of}
+use Rattle.am_replay.specs.Line.{line}
 use Rattle.am_replay.specs.Numbered.{operation_of}
 use Rattle.am_replay.specs.Rising.{HasAt}
 use Rattle.am_replay.proofs.Chaining.{place_read}

@@ -6,5 +6,5 @@ use Rattle.am_replay.proofs.line.put_all.Given as goal
 abbrev pub invariant-loop-i : goal.invariant-loop-i
 invariant-loop-i l = record {
   nodes : l.chain.nodes ≡ ids_of (take l.i l.elements);
-  walk : l.chain.walk ≡ fold put [] (map operation_of (take l.i l.elements))
+  walk : l.chain.walk ≡ fold put [] (map operation_of (take l.i l.elements));
 }

@@ -12,6 +12,6 @@ use Rattle.am_replay.proofs.numbered.sort_operations.Goals as goal
 pub returns : goal.returns
 returns c =
     let sorted : c.sort_by.new.self.items ≡ sorted_by by_id c.args.all.now.items = stably_sorted (on_total operation_of operation_total) c.args.all.now.items c.sort_by.new.self.items
-      (c.in_ok-sort_by.ensures.sorted (λ x y. is_lt (by_id x y)) (ranks_by operation_total operation_of) (answers_always _ _ _ (λ f a r q k. search rules)))
-      (c.in_ok-sort_by.ensures.stable (λ x y. is_lt (by_id x y)) (ranks_by operation_total operation_of) (answers_always _ _ _ (λ f a r q k. search rules))) in
+    (c.in_ok-sort_by.ensures.sorted (λ x y. is_lt (by_id x y)) (ranks_by operation_total operation_of) (answers_always _ _ _ (λ f a r q k. search rules)))
+    (c.in_ok-sort_by.ensures.stable (λ x y. is_lt (by_id x y)) (ranks_by operation_total operation_of) (answers_always _ _ _ (λ f a r q k. search rules))) in
     ap (map operation_of) sorted ∙ sym (sorted_by-map operation_cmp operation_of c.args.all.now.items)

@@ -7,5 +7,5 @@ use Rattle.am_replay.proofs.placed.place_all.Given as goal
 abbrev pub invariant-loop-i : goal.invariant-loop-i
 invariant-loop-i l = record {
   entries : map entry_of_placed l.found.items ≡ kept (map operation_of (take l.i l.operations)) (take l.i l.states);
-  placed : All (IsPlaced (map operation_of l.operations)) l.found.items
+  placed : All (IsPlaced (map operation_of l.operations)) l.found.items;
 }

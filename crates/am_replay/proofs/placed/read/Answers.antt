@@ -12,4 +12,4 @@ returns c =
     ∙ c.in_ok-entries.ensures
     ∙ ap (map entry_of_placed) (c.as_slice-2.ensures.value ∙ c.in_ok-sort_placed.ensures)
     ∙ in_document_order A c.requires.sound c.in_ok-placed.placed.items c.in_ok-placed.ensures.placed
-      (c.in_ok-placed.ensures.entries ∙ ap (kept A) c.as_slice.ensures.value ∙ c.in_ok-states.ensures.kept)
+    (c.in_ok-placed.ensures.entries ∙ ap (kept A) c.as_slice.ensures.value ∙ c.in_ok-states.ensures.kept)

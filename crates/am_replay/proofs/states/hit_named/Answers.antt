@@ -1,6 +1,5 @@
 use Rattle.std.proofs.Common.{◌≡◌, ◌+◌, ◌<◌, ◌∙◌, ◌^◌, ◌++◌, ◌∷◌, [], length, get_or, take, map, ap, sym, subst}
 use Rattle.std.proofs.lemmas.List.{take_more}
-use Rattle.am_types.specs.Values.{amount}
 use Rattle.am_replay.specs.Numbered.{operation_of}
 use Rattle.am_replay.specs.States.{AreWithin, IsBounded, hits}
 use Rattle.am_replay.proofs.Bounds.{within_hits}
@@ -26,7 +25,7 @@ loop-i-preserved c =
     let low : c.loop-i.i < length P = subst (λ l. c.loop-i.i < length l) same c.loop-i-test.true in
     let read : c.index-preds-i.result ≡ get_or P c.loop-i.i c.index-preds-i.result = c.index-preds-i.is ∙ ap (λ l. get_or l c.loop-i.i c.index-preds-i.result) same in
     let more : take (c.loop-i.i + 1) P ≡ take c.loop-i.i P ++ c.index-preds-i.result ∷ [] =
-        take_more P c.loop-i.i c.index-preds-i.result low ∙ ap (λ p. take c.loop-i.i P ++ p ∷ []) (sym read) in
+    take_more P c.loop-i.i c.index-preds-i.result low ∙ ap (λ p. take c.loop-i.i P ++ p ∷ []) (sym read) in
     record {
       count = c.hit_one.ensures.count ∙ c.loop-i.invariant.count;
       hits =

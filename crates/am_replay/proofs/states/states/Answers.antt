@@ -1,4 +1,4 @@
-use Rattle.std.proofs.Common.{◌≡◌, ◌≤◌, ◌<◌, ◌+◌, ◌^◌, ◌∙◌, length, map, take, ap, sym, subst, arith}
+use Rattle.std.proofs.Common.{◌+◌, ◌^◌, ◌∙◌, length, map, take, ap, sym, subst, arith}
 use Rattle.std.proofs.lemmas.List.{take-map}
 use Rattle.am_replay.specs.Numbered.{operation_of}
 use Rattle.am_replay.specs.Rising.{Rise}

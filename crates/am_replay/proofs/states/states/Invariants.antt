@@ -8,5 +8,5 @@ abbrev pub invariant-loop-i : goal.invariant-loop-i
 invariant-loop-i l = record {
   count : length l.states.items ≡ l.i;
   within : AreWithin l.i l.states.items;
-  kept : kept (map operation_of (take l.i l.operations)) l.states.items ≡ fold apply [] (map operation_of (take l.i l.operations))
+  kept : kept (map operation_of (take l.i l.operations)) l.states.items ≡ fold apply [] (map operation_of (take l.i l.operations));
 }

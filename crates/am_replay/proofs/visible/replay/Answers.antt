@@ -1,5 +1,5 @@
-use Rattle.std.proofs.Common.{◌≡◌, ◌∙◌, List, map, ap, sym, subst, IfOk}
-use Rattle.am_types.specs.Operations.{Operation, all_operations, ascending}
+use Rattle.std.proofs.Common.{◌≡◌, ◌∙◌, map, ap, sym, subst, IfOk}
+use Rattle.am_types.specs.Operations.{all_operations, ascending}
 use Rattle.am_replay.specs.Numbered.{operation_of}
 use Rattle.am_replay.specs.Placed.{entries_in}
 use Rattle.am_replay.specs.Sound.{Sound}
@@ -13,11 +13,11 @@ gather-requires c = record { room = have_room c.args.changes.now c.requires }
 pub read-requires : goal.read-requires
 read-requires c =
     let sorted : map operation_of c.as_slice.result.now ≡ ascending (all_operations c.args.changes.now) =
-        ap (map operation_of) c.as_slice.ensures.value ∙ c.in_ok-sort_operations.ensures ∙ ap ascending c.in_ok-operations.ensures in
+    ap (map operation_of) c.as_slice.ensures.value ∙ c.in_ok-sort_operations.ensures ∙ ap ascending c.in_ok-operations.ensures in
     record { sound = subst Sound (sym sorted) (sound_set c.args.changes.now c.requires) }
 
 pub returns : goal.returns
 returns c =
     let sorted : map operation_of c.as_slice.result.now ≡ ascending (all_operations c.args.changes.now) =
-        ap (map operation_of) c.as_slice.ensures.value ∙ c.in_ok-sort_operations.ensures ∙ ap ascending c.in_ok-operations.ensures in
+    ap (map operation_of) c.as_slice.ensures.value ∙ c.in_ok-sort_operations.ensures ∙ ap ascending c.in_ok-operations.ensures in
     subst (λ es. IfOk c.read.result (λ d. d.entries ≡ es)) (ap entries_in sorted ∙ entries_are (all_operations c.args.changes.now)) c.read.ensures
