@@ -10,7 +10,7 @@ use Rattle.am_fits.proofs.fit.fits.Goals as goal
 pub returns-in-Some : goal.returns-in-Some
 returns-in-Some c C are valid =
     by_clash c.args.graph.now c.args.index.now c.args.change.now C are valid c.in-Some.hash
-    (subst (λ a. IsLeast (Some c.in-Some.hash) (having c.args.graph.now a c.args.change.now.seq)) c.as_slice.ensures.value c.in-Some.ensures)
+    (subst (λ a. IsLeast (Some c.in-Some.hash) (having c.args.graph.now a c.args.change.now.seq)) c.as_slice.ensures.value c.in-Some.ensures.graph)
 
 pub unreachable-requires : goal.unreachable-requires
 unreachable-requires c =
@@ -21,21 +21,21 @@ unreachable-requires c =
 pub returns-then-has_gap : goal.returns-then-has_gap
 returns-then-has_gap c C are valid =
     by_gap c.args.graph.now c.args.index.now c.args.change.now C are valid
-    (subst (λ a. IsLeast None (having c.args.graph.now a c.args.change.now.seq)) c.as_slice.ensures.value c.in_default.ensures)
+    (subst (λ a. IsLeast None (having c.args.graph.now a c.args.change.now.seq)) c.as_slice.ensures.value c.in_default.ensures.graph)
     c.in-Ok.reached (λ D e. subst (λ ds. IsClockOf (ancestors D ds) c.in-Ok.reached) c.as_slice-2.ensures (c.in-Ok.ensures.ok D e))
     (sym c.has_gap.ensures ∙ c.if-has_gap.true)
 
 pub returns-in-Some-low_dependency : goal.returns-in-Some-low_dependency
 returns-in-Some-low_dependency c C are valid =
     by_low c.args.graph.now c.args.index.now c.args.change.now C are valid
-    (subst (λ a. IsLeast None (having c.args.graph.now a c.args.change.now.seq)) c.as_slice.ensures.value c.in_default.ensures)
+    (subst (λ a. IsLeast None (having c.args.graph.now a c.args.change.now.seq)) c.as_slice.ensures.value c.in_default.ensures.graph)
     c.in-Ok.reached (λ D e. subst (λ ds. IsClockOf (ancestors D ds) c.in-Ok.reached) c.as_slice-2.ensures (c.in-Ok.ensures.ok D e))
     (sym c.has_gap.ensures ∙ c.if-has_gap.false) c.in-Some-low_dependency.dep c.in-Some-low_dependency.ensures
 
 pub returns-in-Some-first_bad : goal.returns-in-Some-first_bad
 returns-in-Some-first_bad c C are valid =
     by_reference c.args.graph.now c.args.index.now c.args.change.now C are valid
-    (subst (λ a. IsLeast None (having c.args.graph.now a c.args.change.now.seq)) c.as_slice.ensures.value c.in_default.ensures)
+    (subst (λ a. IsLeast None (having c.args.graph.now a c.args.change.now.seq)) c.as_slice.ensures.value c.in_default.ensures.graph)
     c.in-Ok.reached (λ D e. subst (λ ds. IsClockOf (ancestors D ds) c.in-Ok.reached) c.as_slice-2.ensures (c.in-Ok.ensures.ok D e))
     (sym c.has_gap.ensures ∙ c.if-has_gap.false) c.in_default-low_dependency.ensures c.in-Some-first_bad.place c.in-Some-first_bad.ensures.found
 
@@ -45,7 +45,7 @@ with-requires-clause-set c = subst AreWithinLimits (sym (c.totals.ensures ∙ ap
 pub returns-in-Some-limit : goal.returns-in-Some-limit
 returns-in-Some-limit c C are valid =
     by_limit c.args.graph.now c.args.index.now c.args.change.now C are valid
-    (subst (λ a. IsLeast None (having c.args.graph.now a c.args.change.now.seq)) c.as_slice.ensures.value c.in_default.ensures)
+    (subst (λ a. IsLeast None (having c.args.graph.now a c.args.change.now.seq)) c.as_slice.ensures.value c.in_default.ensures.graph)
     c.in-Ok.reached (λ D e. subst (λ ds. IsClockOf (ancestors D ds) c.in-Ok.reached) c.as_slice-2.ensures (c.in-Ok.ensures.ok D e))
     (sym c.has_gap.ensures ∙ c.if-has_gap.false) c.in_default-low_dependency.ensures c.in_default-first_bad.ensures.none c.in-Some-limit.limit
     (c.in-Some-limit.ensures ∙ ap limit_of (c.with.ensures ∙ ap (λ t. totals_with t c.args.change.now) c.totals.ensures))
@@ -53,7 +53,7 @@ returns-in-Some-limit c C are valid =
 pub returns : goal.returns
 returns c C are valid =
     by_none c.args.graph.now c.args.index.now c.args.change.now C are valid
-    (subst (λ a. IsLeast None (having c.args.graph.now a c.args.change.now.seq)) c.as_slice.ensures.value c.in_default.ensures)
+    (subst (λ a. IsLeast None (having c.args.graph.now a c.args.change.now.seq)) c.as_slice.ensures.value c.in_default.ensures.graph)
     c.in-Ok.reached (λ D e. subst (λ ds. IsClockOf (ancestors D ds) c.in-Ok.reached) c.as_slice-2.ensures (c.in-Ok.ensures.ok D e))
     (sym c.has_gap.ensures ∙ c.if-has_gap.false) c.in_default-low_dependency.ensures c.in_default-first_bad.ensures.none
     (c.in_default-limit.ensures ∙ ap limit_of (c.with.ensures ∙ ap (λ t. totals_with t c.args.change.now) c.totals.ensures))
