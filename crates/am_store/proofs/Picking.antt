@@ -110,7 +110,7 @@ more_among hs es i d l b test cs ds had new =
     let p : Member → Bool = λ m. among hash_cmp hs m.hash in
     let e = get_or es i d in
     let split : filter p (members_of (take (i + 1) es)) ≡ filter p (members_of (take i es)) ++ filter p (member_of e ∷ []) =
-        ap (λ l. filter p (members_of l)) (take_more es i d l) ∙ ap (filter p) (map-append member_of (take i es) (e ∷ [])) ∙ filter-append p (members_of (take i es)) (member_of e ∷ []) in
+    ap (λ l. filter p (members_of l)) (take_more es i d l) ∙ ap (filter p) (map-append member_of (take i es) (e ∷ [])) ∙ filter-append p (members_of (take i es)) (member_of e ∷ []) in
     let last : changes (filter p (member_of e ∷ [])) ≡ Rattle.std.proofs.Common.cond b (e.1 ∷ []) [] = go b test in
     new ∙ by b cs (e.1 ∷ []) ∙ (λ j. had j ++ sym last j) ∙ sym (map-append change_of (filter p (members_of (take i es))) (filter p (member_of e ∷ []))) ∙ ap changes (sym split)
   where

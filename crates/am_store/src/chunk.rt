@@ -65,7 +65,9 @@ pub fn first_change(alloc: Global, bytes: &[u8]) -> Result<First<'_>, ChunkFault
     }
     let change = match parse_change(alloc, frame.contents) {
         Ok(change) => change,
-        Err(ChangeFault::CompressedColumn) => return Err(ChunkFault::Bad(LoadFault::CompressedColumn)),
+        Err(ChangeFault::CompressedColumn) => return Err(ChunkFault::Bad(
+            LoadFault::CompressedColumn,
+        )),
         Err(ChangeFault::BadChange) => return Err(ChunkFault::Bad(LoadFault::BadChange)),
         Err(ChangeFault::NoMemory) => return Err(ChunkFault::NoMemory),
     };

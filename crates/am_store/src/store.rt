@@ -92,11 +92,7 @@ impl Store {
 
     /// Delivers changes that stand beside their own hashes. All that changes is made beside the old, which stays where it
     /// is until nothing can fail any more.
-    fn take(
-        &mut self,
-        alloc: Global,
-        changes: Vec<(Hash, Change)>,
-    ) -> Result<Report, AllocError>
+    fn take(&mut self, alloc: Global, changes: Vec<(Hash, Change)>) -> Result<Report, AllocError>
         requires may_come { All MayCome (members_of (vec_items changes)) }
         requires own_hashes { HasOwnHashes (members_of (vec_items changes)) }
         ensures ok { IfOk result (λ report. Takes self.old (members_of (vec_items changes)) report self.new) }

@@ -50,13 +50,22 @@ fn files_are_delivered(rt: HostRuntime) -> Result<(), Fail> {
     let mut store = Store::new(rt.alloc())?;
     let early = store.read_file(rt.alloc(), &SECOND, true)?;
     assert_eq!(rt; (early.added, early.waiting), (0, 1));
-    assert_eq!(rt; store.waiting(rt.alloc())?.as_slice(), [SECOND_HASH].as_slice());
+    assert_eq!(rt;
+        store.waiting(rt.alloc())?.as_slice(),
+        [SECOND_HASH].as_slice()
+    );
     let late = store.read_file(rt.alloc(), &FIRST, false)?;
     assert_eq!(rt; (late.added, late.waiting), (2, 0));
-    assert_eq!(rt; store.graph().heads(rt.alloc())?.as_slice(), [SECOND_HASH].as_slice());
+    assert_eq!(rt;
+        store.graph().heads(rt.alloc())?.as_slice(),
+        [SECOND_HASH].as_slice()
+    );
     let clash = store.read_file(rt.alloc(), &OTHER, true)?;
     let why = Why::SeqClash(FIRST_HASH);
-    let rejected = [Rejected { hash: OTHER_HASH, why }];
+    let rejected = [Rejected {
+        hash: OTHER_HASH,
+        why,
+    }];
     assert_eq!(rt; clash.rejected.as_slice(), rejected.as_slice());
     assert_eq!(rt; store.counts().operations, 2);
     Ok(())

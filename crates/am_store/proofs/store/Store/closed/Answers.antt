@@ -19,5 +19,5 @@ returns c =
     let listed = c.as_slice-2.ensures ∙ c.in_ok-hashes.ensures.set C c.self.invariant.of_set.graph in
     IfOk-weaker c.changes_with.result _ _
     (λ list e. in_canonical_order C c.self.invariant.kept.stored.valid c.as_slice-2.result.now list listed (subst (λ es. map (λ x. Some x) list ≡ map (found (members_of es)) c.as_slice-2.result.now) c.as_slice.ensures.value e)
-        ∙ ap (λ (k : Kept). changes (order k.closed)) c.self.view_is)
+    ∙ ap (λ (k : Kept). changes (order k.closed)) c.self.view_is)
     c.changes_with.ensures

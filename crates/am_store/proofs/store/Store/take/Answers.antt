@@ -40,7 +40,7 @@ invariant_of-self-2 c =
     let begun : ◌≡◌ {A = Grown} c.over-growing.result (record { old = old; fresh = [] }) = c.over-growing.ensures ∙ (λ i. record { old = c.as_slice.ensures.value i; fresh = [] }) in
     let view : ◌≡◌ {A = Grown} (record { old = kept; fresh = fresh }) c.deliver.new.closed = c.growing.view_is in
     let closed : members_of (kept ++ fresh) ≡ (deliver (members_of (old ++ [])) (waiting_of v) L).closed =
-        ap (λ (g : Grown). members_of (g.old ++ g.fresh)) view ∙ c.in_ok-rejected.ensures.closed ∙ ap (λ (g : Grown). (deliver (members_of (g.old ++ g.fresh)) (waiting_of v) L).closed) begun in
+    ap (λ (g : Grown). members_of (g.old ++ g.fresh)) view ∙ c.in_ok-rejected.ensures.closed ∙ ap (λ (g : Grown). (deliver (members_of (g.old ++ g.fresh)) (waiting_of v) L).closed) begun in
     let waiting = subst (λ (g : Grown). IsPermutation (deliver (members_of (g.old ++ g.fresh)) (waiting_of v) L).waiting (waiting_of u)) begun c.in_ok-rejected.ensures.waiting in
     let stored = subst (λ (g : Grown). AreStored (members_of (g.old ++ g.fresh)) (waiting_of u)) (sym view) c.in_ok-rejected.ensures.stored in
     let base = ap (λ (g : Grown). members_of g.old) view ∙ c.in_ok-rejected.ensures.base ∙ ap (λ (g : Grown). members_of g.old) begun in
@@ -62,7 +62,7 @@ returns-clause-ok c =
     let begun : ◌≡◌ {A = Grown} c.over-growing.result (record { old = old; fresh = [] }) = c.over-growing.ensures ∙ (λ i. record { old = c.as_slice.ensures.value i; fresh = [] }) in
     let view : ◌≡◌ {A = Grown} (record { old = kept; fresh = fresh }) c.deliver.new.closed = c.growing.view_is in
     let closed : members_of (kept ++ fresh) ≡ (deliver (members_of (old ++ [])) (waiting_of v) L).closed =
-        ap (λ (g : Grown). members_of (g.old ++ g.fresh)) view ∙ c.in_ok-rejected.ensures.closed ∙ ap (λ (g : Grown). (deliver (members_of (g.old ++ g.fresh)) (waiting_of v) L).closed) begun in
+    ap (λ (g : Grown). members_of (g.old ++ g.fresh)) view ∙ c.in_ok-rejected.ensures.closed ∙ ap (λ (g : Grown). (deliver (members_of (g.old ++ g.fresh)) (waiting_of v) L).closed) begun in
     let waiting = subst (λ (g : Grown). IsPermutation (deliver (members_of (g.old ++ g.fresh)) (waiting_of v) L).waiting (waiting_of u)) begun c.in_ok-rejected.ensures.waiting in
     let stored = subst (λ (g : Grown). AreStored (members_of (g.old ++ g.fresh)) (waiting_of u)) (sym view) c.in_ok-rejected.ensures.stored in
     let base = ap (λ (g : Grown). members_of g.old) view ∙ c.in_ok-rejected.ensures.base ∙ ap (λ (g : Grown). members_of g.old) begun in
