@@ -1,5 +1,5 @@
 -- Bytes are a file of changes in one way at most, or have one first bad chunk.
-use Rattle.std.proofs.Common.{ℕ, arith, ◌≡◌, ◌<◌, ◌+◌, ◌^◌, List, [], ◌∷◌, ◌++◌, length, flat_map, Bool, Result, Ok, Err, All, refl, sym, ap, ◌∙◌, subst, inl, inr, ◌⊎◌}
+use Rattle.std.proofs.Common.{ℕ, suc, arith, ◌≡◌, ◌<◌, ◌+◌, ◌^◌, List, [], ◌∷◌, ◌++◌, length, flat_map, Bool, Result, Ok, Err, All, refl, sym, ap, ◌∙◌, subst, inl, inr, ◌⊎◌}
 use Rattle.std.specs.Bool.{⊤}
 use Rattle.std.specs.List.{AllZip}
 use Rattle.std.proofs.lemmas.List.{append_assoc, append-nil}
@@ -33,6 +33,9 @@ compressed_is_known e = cc
 
 no_more : (k : Chunk) (rest : List ℕ) → [] ≡ chunk_bytes k ++ rest → ⊥
 no_more k rest e = cc
+
+two_kinds : (a b : ℕ) → a ≡ 0 → b ≡ 1 → a ≡ b → ⊥
+two_kinds a b x y e = absurd (omega arith)
 
 -- where a chunk begins, it is the only one
 first_is : (kind : ℕ) (P : List ℕ → Type 0) (bytes : List ℕ) (k : Chunk) (rest : List ℕ) → IsChunk k → bytes ≡ chunk_bytes k ++ rest → (b : Begins kind P bytes) → chunk_of kind b.contents ≡ k
@@ -89,7 +92,7 @@ module _ (tells : TellsChanges) (judges : JudgesOnce) where
   agree only (k ∷ xs) (l ∷ ys) (c ∷ cs) (d ∷ ds) r q f g a b z w e x y =
       let step = one_chunk k l (flat_map chunk_bytes xs ++ r) (flat_map chunk_bytes ys ++ q) (All-head IsChunk k xs a) (All-head IsChunk l ys b) (sym (rest_of k xs r) ∙ e ∙ rest_of l ys q) in
       let again = agree only xs ys cs ds r q f g (All-tail IsChunk k xs a) (All-tail IsChunk l ys b) z.1 w.1 step.1 x y in
-      (ap (λ n. 1 + n) again.0, again.1)
+      (ap suc again.0, again.1)
 
   never : (only : Bool) (xs ys : List Chunk) (cs ds : List Change) (r : List ℕ) (f : LoadFault) → All IsChunk xs → All IsChunk ys → AllZip Holds xs cs → AllZip Holds ys ds
       → flat_map chunk_bytes xs ≡ flat_map chunk_bytes ys ++ r → 0 < length r → HasFault only r f → ⊥
@@ -150,7 +153,7 @@ module _ (tells : TellsChanges) (judges : JudgesOnce) where
   no_frame_fault kind P bytes f x b = none_at_a_chunk bytes (chunk_of kind b.contents) b.rest x.fault b.is_chunk b.bytes_are x.has
 
   no_two_kinds : (P Q : List ℕ → Type 0) (bytes : List ℕ) → Begins 0 P bytes → Begins 1 Q bytes → ⊥
-  no_two_kinds P Q bytes a b = let e : 0 ≡ 1 = ap (λ (q : Chunk). q.kind) (first_is 0 P bytes (chunk_of 1 b.contents) b.rest b.is_chunk b.bytes_are a) in absurd (omega arith)
+  no_two_kinds P Q bytes a b = two_kinds 0 1 refl refl (ap (λ (q : Chunk). q.kind) (first_is 0 P bytes (chunk_of 1 b.contents) b.rest b.is_chunk b.bytes_are a))
 
   not_both : (bytes : List ℕ) → Begins 1 IsCompressed bytes → Begins 1 AreOfNoChange bytes → ⊥
   not_both bytes a b = b.has.plain (subst IsCompressed (ap (λ (q : Chunk). q.contents) (first_is 1 IsCompressed bytes (chunk_of 1 b.contents) b.rest b.is_chunk b.bytes_are a)) a.has)
