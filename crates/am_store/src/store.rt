@@ -1,5 +1,5 @@
 //! A store of changes: a closed set and the changes that wait for dependencies.
-ghost use Rattle.std.specs.Prelude.{◌≡◌, [], List, IfOk, OnOk, OnErr, IfErr, All, Some, find, not, true, vec_items};
+ghost use Rattle.std.specs.Prelude.{◌≡◌, [], length, List, IfOk, OnOk, OnErr, IfErr, All, Some, find, not, true, vec_items};
 ghost use Rattle.am_types.specs.declared.Change.{Change as AChange};
 ghost use Rattle.am_types.specs.Fine.{Fine};
 ghost use Rattle.am_types.specs.Order.{hash_cmp, Ascends};
@@ -111,7 +111,7 @@ impl Store {
             index,
         } = growing;
         let report = Report {
-            added: fresh.len() as u64,
+            added: count_of(fresh.as_slice()),
             waiting: waiting.len() as u64,
             rejected,
         };
@@ -182,6 +182,13 @@ impl Store {
         let list = changes_among(alloc, self.closed.as_slice(), hashes.as_slice())?;
         Ok(list)
     }
+}
+
+/// How many changes there are.
+fn count_of(changes: &[(Hash, Change)]) -> u64
+    ensures { result ≡ length changes.now }
+{
+    changes.len() as u64
 }
 
 impl Twin for Store {
