@@ -18,5 +18,6 @@ pub mod Sights
 pub mod Onward
 pub mod Spellings
 pub mod Taken
+pub mod Counted
 pub mod TextSpellings
 pub mod LiteralTexts

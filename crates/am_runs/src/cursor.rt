@@ -1,14 +1,15 @@
 //! A cursor over the items of a column. It takes no memory.
 ghost use Rattle.std.specs.Prelude.{◌≡◌, ◌<◌, ◌≤◌, ◌++◌, ◌∷◌, [], ℕ, List, Option, length, take, drop, Some, IfOk, IfSome, IfNone, OnErr, replicate};
 ghost use Rattle.std.specs.Option.{option_copied};
-ghost use Rattle.am_leb.specs.Leb.{unsigned_value, signed_value};
 ghost use Rattle.am_runs.specs.Items.{text_of};
 ghost use Rattle.am_runs.specs.Runs.{JoinsRuns};
+ghost use Rattle.am_runs.specs.Walking.{entries, HasEntries};
+ghost use Rattle.am_runs.specs.Counters.{in_literal};
 
 use crate::fault::BadRun;
-use crate::item::{Item, SignedItem, TextItem, UnsignedItem};
+use crate::item::{Item, TextItem};
 use crate::likeness::alike;
-use crate::literal::{signed_in, text_behind, unsigned_in};
+use crate::literal::text_behind;
 use crate::place::{Kind, Position, opened, stepped};
 use crate::run::run_at;
 use crate::skipping::skipped;
@@ -105,6 +106,31 @@ impl<'a, K: Item> RunCursor<'a, K> {
         }
     }
 
+    // A cursor before so many items of a literal run, which begin the bytes.
+    pub(crate) fn in_literal(literal: u64, rest: &'a [u8], left: u64) -> Self
+        requires { HasEntries K.end_of left (in_literal literal rest.now) }
+        ensures { result ≡ entries K.end_of left (in_literal literal rest.now) }
+    {
+        RunCursor {
+            at: Position {
+                kind: Kind::Literal,
+                count: literal,
+                item: &rest[..0],
+                rest,
+            },
+            left,
+            of: PhantomData,
+        }
+    }
+
+    // The place, and how many entries are left from it.
+    pub(crate) fn place(&self) -> (Position<'a>, u64)
+        ensures holds { HasEntries K.end_of result.1 (record { kind = result.0.kind; count = result.0.count; item = result.0.item.now; rest = result.0.rest.now }) }
+        ensures list { self.now ≡ entries K.end_of result.1 (record { kind = result.0.kind; count = result.0.count; item = result.0.item.now; rest = result.0.rest.now }) }
+    {
+        (self.at, self.left)
+    }
+
     // Opens the next run where none is being read. No entry is taken.
     #[inline(always)]
     pub(crate) fn enter(&mut self)
@@ -162,58 +188,6 @@ impl<'a, K: Item> RunCursor<'a, K> {
                 self.left -= 1;
                 Some(entry)
             }
-        }
-    }
-}
-
-impl<'a> RunCursor<'a, UnsignedItem> {
-    // The next number, while a literal run is being read.
-    #[inline(always)]
-    pub(crate) fn literal_number(&mut self) -> Option<u64>
-        ensures found { IfSome result (λ n. (item : List ℕ) × (n ≡ unsigned_value item) × (self.old ≡ Some item ∷ self.new)) }
-        ensures none { IfNone result (self.new ≡ self.old) }
-    {
-        if self.at.count == 0 {
-            return None;
-        }
-        if self.left == 0 {
-            return None;
-        }
-        match self.at.kind {
-            Kind::Literal => match unsigned_in(&mut self.at) {
-                None => None,
-                Some((n, _)) => {
-                    self.left -= 1;
-                    Some(n)
-                }
-            },
-            _ => None,
-        }
-    }
-}
-
-impl<'a> RunCursor<'a, SignedItem> {
-    // The next number, while a literal run is being read.
-    #[inline(always)]
-    pub(crate) fn literal_number(&mut self) -> Option<i64>
-        ensures found { IfSome result (λ n. (item : List ℕ) × (n ≡ signed_value item) × (self.old ≡ Some item ∷ self.new)) }
-        ensures none { IfNone result (self.new ≡ self.old) }
-    {
-        if self.at.count == 0 {
-            return None;
-        }
-        if self.left == 0 {
-            return None;
-        }
-        match self.at.kind {
-            Kind::Literal => match signed_in(&mut self.at) {
-                None => None,
-                Some((n, _)) => {
-                    self.left -= 1;
-                    Some(n)
-                }
-            },
-            _ => None,
         }
     }
 }

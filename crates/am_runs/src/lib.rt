@@ -1,6 +1,7 @@
 //! Columns of runs: a list of items and nulls in runs, each a repeated item, a row of items, or nulls (Automerge Binary Document Format, run length encoding).
 #![tactic(auto)]
 
+mod counters;
 mod cursor;
 mod fault;
 mod item;
@@ -8,6 +9,7 @@ mod judge;
 mod laws;
 mod likeness;
 mod literal;
+mod numbers;
 mod pending;
 mod place;
 mod run;

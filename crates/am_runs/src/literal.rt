@@ -2,55 +2,12 @@
 ghost use Rattle.std.specs.Prelude.{◌≡◌, ◌<◌, Some, IfSome, IfNone, true, false};
 ghost use Rattle.std.specs.Option.{option_map};
 ghost use Rattle.std.specs.Str.{is_utf8};
-ghost use Rattle.am_leb.specs.Leb.{unsigned_value, signed_value};
-ghost use Rattle.am_runs.specs.Items.{unsigned_end, signed_end, text_end, text_of};
+ghost use Rattle.am_runs.specs.Items.{text_end, text_of};
 ghost use Rattle.am_runs.specs.Walking.{step};
 
 use crate::place::{Kind, Position};
-use am_leb::{read_i, read_u};
+use am_leb::read_u;
 use std::str::from_utf8;
-
-/// Goes behind the next item: the number that it spells, and the item.
-#[inline(always)]
-pub fn unsigned_in<'a>(at: &mut Position<'a>) -> Option<(u64, &'a [u8])>
-    requires within { 0 < at.old.count }
-    requires literal { at.old.kind ≡ Kind.Literal }
-    ensures step { option_map (λ r. (Some r.1.now, record { kind = at.new.kind; count = at.new.count; item = at.new.item.now; rest = at.new.rest.now })) result
-        ≡ step unsigned_end (record { kind = at.old.kind; count = at.old.count; item = at.old.item.now; rest = at.old.rest.now }) }
-    ensures value { IfSome result (λ r. r.0 ≡ unsigned_value r.1.now) }
-{
-    let rest = at.rest;
-    match read_u(rest) {
-        Err(_) => None,
-        Ok((n, len)) => {
-            at.count -= 1;
-            at.item = &rest[..0];
-            at.rest = &rest[len..];
-            Some((n, &rest[..len]))
-        }
-    }
-}
-
-/// Goes behind the next item: the signed number that it spells, and the item.
-#[inline(always)]
-pub fn signed_in<'a>(at: &mut Position<'a>) -> Option<(i64, &'a [u8])>
-    requires within { 0 < at.old.count }
-    requires literal { at.old.kind ≡ Kind.Literal }
-    ensures step { option_map (λ r. (Some r.1.now, record { kind = at.new.kind; count = at.new.count; item = at.new.item.now; rest = at.new.rest.now })) result
-        ≡ step signed_end (record { kind = at.old.kind; count = at.old.count; item = at.old.item.now; rest = at.old.rest.now }) }
-    ensures value { IfSome result (λ r. r.0 ≡ signed_value r.1.now) }
-{
-    let rest = at.rest;
-    match read_i(rest) {
-        Err(_) => None,
-        Ok((n, len)) => {
-            at.count -= 1;
-            at.item = &rest[..0];
-            at.rest = &rest[len..];
-            Some((n, &rest[..len]))
-        }
-    }
-}
 
 // The bytes as a text, if they are UTF-8.
 fn text_over<'a>(bytes: &'a [u8]) -> Option<&'a str>

@@ -1,18 +1,21 @@
 //! A cursor over the signed numbers of a column.
-ghost use Rattle.std.specs.Prelude.{◌≡◌, ◌<◌, ◌≤◌, ◌∷◌, [], List, Option, length, take, drop, IfOk, IfSome, IfNone, OnErr, replicate, ℤ};
-ghost use Rattle.am_runs.specs.Typed.{JoinsSigned};
+ghost use Rattle.std.specs.Prelude.{◌≡◌, ◌<◌, ◌≤◌, ◌∷◌, [], ℤ, List, Option, Some, length, take, drop, IsSome, IfOk, IfSome, IfNone, OnErr, replicate};
+ghost use Rattle.am_runs.specs.Typed.{JoinsSigned, AllItems, signed_numbers};
 ghost use Rattle.std.specs.Option.{option_copied, option_map};
 ghost use Rattle.am_leb.specs.Leb.{signed_value};
 ghost use Rattle.am_runs.specs.Items.{IsItem, signed_end};
+ghost use Rattle.am_runs.specs.Counters.{IsCounted, counted, entries_from};
 
+use crate::counters::{Counters, counters_of, runs_from};
 use crate::cursor::RunCursor;
 use crate::fault::BadRun;
 use crate::item::SignedItem;
+use crate::numbers::{low_number, signed_first, signed_run};
+use crate::place::Kind;
 use crate::value::signed_number;
 use std::marker::Model;
 
 // The number of an item, and null of null.
-#[inline(always)]
 fn number_of(entry: Option<&[u8]>) -> Option<i64>
     requires { IfSome (option_copied entry) (IsItem signed_end) }
     ensures { result ≡ option_map signed_value (option_copied entry.entry) }
@@ -23,26 +26,111 @@ fn number_of(entry: Option<&[u8]>) -> Option<i64>
     }
 }
 
+// The next number of the literal run that is being read. One of a single byte is read with no look at how many bytes there are.
+#[inline(always)]
+fn literal_number<'a>(at: &mut Counters<'a>) -> Option<i64>
+    requires held { IsCounted signed_end at.old.same at.old.nulls at.old.literal at.old.left at.old.rest.now }
+    requires literal { 0 < at.old.literal }
+    ensures some { IsSome result }
+    ensures held { IsCounted signed_end at.new.same at.new.nulls at.new.literal at.new.left at.new.rest.now }
+    ensures same { at.new.same ≡ at.old.same }
+    ensures nulls { at.new.nulls ≡ at.old.nulls }
+    ensures next { IfSome result (λ n. signed_numbers (entries_from signed_end at.old.literal at.old.left at.old.rest.now)
+        ≡ Some n ∷ signed_numbers (entries_from signed_end at.new.literal at.new.left at.new.rest.now)) }
+{
+    let rest = at.rest;
+    let first = rest[0];
+    if first < 128 {
+        at.literal -= 1;
+        at.rest = &rest[1..];
+        return Some(low_number(first));
+    }
+    match signed_first(rest) {
+        None => None,
+        Some((n, len)) => {
+            at.literal -= 1;
+            at.rest = &rest[len..];
+            Some(n)
+        }
+    }
+}
+
+// Opens the run behind, and takes its first number.
+#[inline(always)]
+fn opened<'a>(at: &mut Counters<'a>, value: &mut i64) -> Option<Option<i64>>
+    requires held { IsCounted signed_end 0 0 0 at.old.left at.old.rest.now }
+    requires some { 0 < at.old.left }
+    ensures some { IsSome result }
+    ensures held { IsCounted signed_end at.new.same at.new.nulls at.new.literal at.new.left at.new.rest.now }
+    ensures next { IfSome result (λ first. signed_numbers (entries_from signed_end 0 at.old.left at.old.rest.now)
+        ≡ first ∷ counted signed_value at.new.same value.new at.new.nulls (entries_from signed_end at.new.literal at.new.left at.new.rest.now)) }
+{
+    match signed_run(at.rest) {
+        None => None,
+        Some((run, n)) => {
+            let left = at.left - run.count;
+            let mut next = Counters {
+                same: 0,
+                literal: 0,
+                nulls: 0,
+                rest: run.rest,
+                left,
+            };
+            match run.kind {
+                Kind::Repeat => {
+                    next.same = run.count - 1;
+                    *value = n;
+                    *at = next;
+                    Some(Some(n))
+                }
+                Kind::Nulls => {
+                    next.nulls = run.count - 1;
+                    *at = next;
+                    Some(None)
+                }
+                Kind::Literal => {
+                    next.literal = run.count;
+                    *at = next;
+                    match literal_number(at) {
+                        None => None,
+                        Some(n) => Some(Some(n)),
+                    }
+                }
+            }
+        }
+    }
+}
+
 /// The signed numbers of a column, one after another.
 #[derive(Drop)]
 pub struct SignedCursor<'a> {
-    runs: RunCursor<'a, SignedItem>,
-    // So many of this value come before those of the runs.
-    more: u64,
-    value: Option<i64>,
+    at: Counters<'a>,
+    // of this number there are copies
+    value: i64,
 }
 
 impl<'a> Model for SignedCursor<'a> {
-    ghost use Rattle.std.specs.Prelude.{ℕ, ℤ, ◌+◌, ◌^◌, ◌<◌, ◌++◌, List, Option, length, replicate};
+    ghost use Rattle.std.specs.Prelude.{ℤ, List, Option};
 
     ghost Value = { List (Option ℤ) };
 
+    ghost use Rattle.am_leb.specs.Leb.{signed_value};
     ghost use Rattle.am_runs.specs.Items.{signed_end};
-    ghost use Rattle.am_runs.specs.Typed.{AllItems, signed_numbers};
+    ghost use Rattle.am_runs.specs.Counters.{IsCounted, counted, entries_from};
 
-    ghost view = { λ a. replicate a.more a.value ++ signed_numbers a.runs };
+    ghost view = { λ a. counted signed_value a.at.same a.value a.at.nulls (entries_from signed_end a.at.literal a.at.left a.at.rest.now) };
 
-    ghost invariant = { λ a. AllItems signed_end a.runs × (a.more + length a.runs < 2 ^ 64) };
+    ghost invariant = { λ a. IsCounted signed_end a.at.same a.at.nulls a.at.literal a.at.left a.at.rest.now };
+}
+
+// A cursor over what the entries spell.
+fn numbers_of<'a>(runs: &RunCursor<'a, SignedItem>) -> SignedCursor<'a>
+    requires { AllItems signed_end runs.now }
+    ensures { result ≡ signed_numbers runs.now }
+{
+    let (at, item) = counters_of(runs);
+    let value = if at.same > 0 { signed_number(item) } else { 0 };
+    SignedCursor { at, value }
 }
 
 impl<'a> SignedCursor<'a> {
@@ -53,11 +141,7 @@ impl<'a> SignedCursor<'a> {
     {
         match RunCursor::over(bytes, most) {
             Err(fault) => Err(fault),
-            Ok(runs) => Ok(SignedCursor {
-                runs,
-                more: 0,
-                value: None,
-            }),
+            Ok(runs) => Ok(numbers_of(&runs)),
         }
     }
 
@@ -65,7 +149,7 @@ impl<'a> SignedCursor<'a> {
     pub fn left(&self) -> u64
         ensures { result ≡ length self.now }
     {
-        self.more + self.runs.left()
+        self.at.same + self.at.nulls + (self.at.literal + self.at.left)
     }
 
     /// The same cursor again.
@@ -73,8 +157,7 @@ impl<'a> SignedCursor<'a> {
         ensures { result ≡ self.now }
     {
         SignedCursor {
-            runs: self.runs.again(),
-            more: self.more,
+            at: self.at,
             value: self.value,
         }
     }
@@ -83,12 +166,19 @@ impl<'a> SignedCursor<'a> {
     pub fn skip(&mut self, n: u64)
         ensures { self.new ≡ drop n self.old }
     {
-        if n <= self.more {
-            self.more -= n;
+        if n <= self.at.same {
+            self.at.same -= n;
             return;
         }
-        self.runs.skip(n - self.more);
-        self.more = 0;
+        let n = n - self.at.same;
+        self.at.same = 0;
+        if n <= self.at.nulls {
+            self.at.nulls -= n;
+            return;
+        }
+        let mut runs = runs_from::<SignedItem>(&self.at);
+        runs.skip(n - self.at.nulls);
+        *self = numbers_of(&runs);
     }
 
     /// The next value, and how often it comes next at least. It goes on by none.
@@ -96,10 +186,13 @@ impl<'a> SignedCursor<'a> {
         ensures end { IfNone result (self.now ≡ []) }
         ensures like { IfSome result (λ r. (1 ≤ r.1) × (r.1 ≤ length self.now) × (take r.1 self.now ≡ replicate r.1 r.0)) }
     {
-        if self.more > 0 {
-            return Some((self.value, self.more));
+        if self.at.same > 0 {
+            return Some((Some(self.value), self.at.same));
         }
-        match self.runs.like() {
+        if self.at.nulls > 0 {
+            return Some((None, self.at.nulls));
+        }
+        match runs_from::<SignedItem>(&self.at).like() {
             None => None,
             Some((entry, k)) => Some((number_of(entry), k)),
         }
@@ -111,22 +204,23 @@ impl<'a> SignedCursor<'a> {
         ensures end { IfNone result ((self.old ≡ []) × (self.new ≡ [])) }
         ensures next { IfSome result (λ value. self.old ≡ value ∷ self.new) }
     {
-        if self.more > 0 {
-            self.more -= 1;
-            return Some(self.value);
+        if self.at.same > 0 {
+            self.at.same -= 1;
+            return Some(Some(self.value));
         }
-        self.runs.enter();
-        match self.runs.literal_number() {
-            Some(n) => return Some(Some(n)),
-            None => {}
+        if self.at.literal > 0 {
+            return match literal_number(&mut self.at) {
+                None => None,
+                Some(n) => Some(Some(n)),
+            };
         }
-        match self.runs.next_alike() {
-            None => None,
-            Some((entry, k)) => {
-                self.value = number_of(entry);
-                self.more = k - 1;
-                Some(self.value)
-            }
+        if self.at.nulls > 0 {
+            self.at.nulls -= 1;
+            return Some(None);
         }
+        if self.at.left == 0 {
+            return None;
+        }
+        opened(&mut self.at, &mut self.value)
     }
 }

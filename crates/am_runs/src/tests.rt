@@ -100,3 +100,32 @@ fn read(rt: HostRuntime) {
     assert_eq!(rt; words.next(), Some(None));
     assert_eq!(rt; words.next(), Some(Some("")));
 }
+
+#[test]
+fn repeated(rt: HostRuntime) {
+    let Ok(mut numbers) = UnsignedCursor::over(&[3, 5, 0x7e, 7, 0x80, 1, 0, 2], 7) else {
+        assert!(rt; false, "the numbers can be read");
+        return;
+    };
+    assert_eq!(rt; numbers.next(), Some(Some(5)));
+    assert_eq!(rt; numbers.left(), 6);
+    assert_eq!(rt; numbers.like(), Some((Some(5), 2)));
+    numbers.skip(2);
+    assert_eq!(rt; numbers.next(), Some(Some(7)));
+    assert_eq!(rt; numbers.like(), Some((Some(128), 1)));
+    assert_eq!(rt; numbers.next(), Some(Some(128)));
+    assert_eq!(rt; numbers.again().next(), Some(None));
+    numbers.skip(1);
+    assert_eq!(rt; numbers.next(), Some(None));
+    assert_eq!(rt; numbers.next(), None);
+    let Ok(mut words) = TextCursor::over(&[3, 1, 0x61, 0, 1], 4) else {
+        assert!(rt; false, "the texts can be read");
+        return;
+    };
+    assert_eq!(rt; words.next(), Some(Some("a")));
+    assert_eq!(rt; words.left(), 3);
+    assert_eq!(rt; words.again().next(), Some(Some("a")));
+    words.skip(2);
+    assert_eq!(rt; words.next(), Some(None));
+    assert_eq!(rt; words.next(), None);
+}

@@ -1,18 +1,21 @@
 //! A cursor over the unsigned numbers of a column.
-ghost use Rattle.std.specs.Prelude.{◌≡◌, ◌<◌, ◌≤◌, ◌∷◌, [], ℕ, List, Option, length, take, drop, IfOk, IfSome, IfNone, OnErr, replicate};
-ghost use Rattle.am_runs.specs.Typed.{JoinsUnsigned};
+ghost use Rattle.std.specs.Prelude.{◌≡◌, ◌<◌, ◌≤◌, ◌∷◌, [], ℕ, List, Option, Some, length, take, drop, IsSome, IfOk, IfSome, IfNone, OnErr, replicate};
+ghost use Rattle.am_runs.specs.Typed.{JoinsUnsigned, AllItems, unsigned_numbers};
 ghost use Rattle.std.specs.Option.{option_copied, option_map};
 ghost use Rattle.am_leb.specs.Leb.{unsigned_value};
 ghost use Rattle.am_runs.specs.Items.{IsItem, unsigned_end};
+ghost use Rattle.am_runs.specs.Counters.{IsCounted, counted, entries_from};
 
+use crate::counters::{Counters, counters_of, runs_from};
 use crate::cursor::RunCursor;
 use crate::fault::BadRun;
 use crate::item::UnsignedItem;
+use crate::numbers::{unsigned_first, unsigned_run};
+use crate::place::Kind;
 use crate::value::unsigned_number;
 use std::marker::Model;
 
 // The number of an item, and null of null.
-#[inline(always)]
 fn number_of(entry: Option<&[u8]>) -> Option<u64>
     requires { IfSome (option_copied entry) (IsItem unsigned_end) }
     ensures { result ≡ option_map unsigned_value (option_copied entry.entry) }
@@ -23,26 +26,115 @@ fn number_of(entry: Option<&[u8]>) -> Option<u64>
     }
 }
 
+// The next number of the literal run that is being read. One of a single byte is read with no look at how many bytes there are.
+#[inline(always)]
+fn literal_number<'a>(at: &mut Counters<'a>) -> Option<u64>
+    requires held { IsCounted unsigned_end at.old.same at.old.nulls at.old.literal at.old.left at.old.rest.now }
+    requires literal { 0 < at.old.literal }
+    ensures some { IsSome result }
+    ensures held { IsCounted unsigned_end at.new.same at.new.nulls at.new.literal at.new.left at.new.rest.now }
+    ensures same { at.new.same ≡ at.old.same }
+    ensures nulls { at.new.nulls ≡ at.old.nulls }
+    ensures next { IfSome result (λ n. unsigned_numbers (entries_from unsigned_end at.old.literal at.old.left at.old.rest.now)
+        ≡ Some n ∷ unsigned_numbers (entries_from unsigned_end at.new.literal at.new.left at.new.rest.now)) }
+{
+    let rest = at.rest;
+    let first = rest[0];
+    if first < 128 {
+        at.literal -= 1;
+        at.rest = &rest[1..];
+        return Some(u64::from(first));
+    }
+    match unsigned_first(rest) {
+        None => None,
+        Some((n, len)) => {
+            at.literal -= 1;
+            at.rest = &rest[len..];
+            Some(n)
+        }
+    }
+}
+
+// Opens the run behind, and takes its first number.
+#[inline(always)]
+fn opened<'a>(at: &mut Counters<'a>, value: &mut u64) -> Option<Option<u64>>
+    requires held { IsCounted unsigned_end 0 0 0 at.old.left at.old.rest.now }
+    requires some { 0 < at.old.left }
+    ensures some { IsSome result }
+    ensures held { IsCounted unsigned_end at.new.same at.new.nulls at.new.literal at.new.left at.new.rest.now }
+    ensures next { IfSome result (λ first. unsigned_numbers (entries_from unsigned_end 0 at.old.left at.old.rest.now)
+        ≡ first ∷ counted unsigned_value at.new.same value.new at.new.nulls (entries_from unsigned_end at.new.literal at.new.left at.new.rest.now)) }
+{
+    match unsigned_run(at.rest) {
+        None => None,
+        Some((run, n)) => {
+            let left = at.left - run.count;
+            let mut next = Counters {
+                same: 0,
+                literal: 0,
+                nulls: 0,
+                rest: run.rest,
+                left,
+            };
+            match run.kind {
+                Kind::Repeat => {
+                    next.same = run.count - 1;
+                    *value = n;
+                    *at = next;
+                    Some(Some(n))
+                }
+                Kind::Nulls => {
+                    next.nulls = run.count - 1;
+                    *at = next;
+                    Some(None)
+                }
+                Kind::Literal => {
+                    next.literal = run.count;
+                    *at = next;
+                    match literal_number(at) {
+                        None => None,
+                        Some(n) => Some(Some(n)),
+                    }
+                }
+            }
+        }
+    }
+}
+
 /// The unsigned numbers of a column, one after another.
 #[derive(Drop)]
 pub struct UnsignedCursor<'a> {
-    runs: RunCursor<'a, UnsignedItem>,
-    // So many of this value come before those of the runs.
-    more: u64,
-    value: Option<u64>,
+    at: Counters<'a>,
+    // of this number there are copies
+    value: u64,
 }
 
 impl<'a> Model for UnsignedCursor<'a> {
-    ghost use Rattle.std.specs.Prelude.{ℕ, ℤ, ◌+◌, ◌^◌, ◌<◌, ◌++◌, List, Option, length, replicate};
+    ghost use Rattle.std.specs.Prelude.{ℕ, ℤ, List, Option};
 
     ghost Value = { List (Option ℕ) };
 
+    ghost use Rattle.am_leb.specs.Leb.{unsigned_value};
     ghost use Rattle.am_runs.specs.Items.{unsigned_end};
-    ghost use Rattle.am_runs.specs.Typed.{AllItems, unsigned_numbers};
+    ghost use Rattle.am_runs.specs.Counters.{IsCounted, counted, entries_from};
 
-    ghost view = { λ a. replicate a.more a.value ++ unsigned_numbers a.runs };
+    ghost view = { λ a. counted unsigned_value a.at.same a.value a.at.nulls (entries_from unsigned_end a.at.literal a.at.left a.at.rest.now) };
 
-    ghost invariant = { λ a. AllItems unsigned_end a.runs × (a.more + length a.runs < 2 ^ 64) };
+    ghost invariant = { λ a. IsCounted unsigned_end a.at.same a.at.nulls a.at.literal a.at.left a.at.rest.now };
+}
+
+// A cursor over what the entries spell.
+fn numbers_of<'a>(runs: &RunCursor<'a, UnsignedItem>) -> UnsignedCursor<'a>
+    requires { AllItems unsigned_end runs.now }
+    ensures { result ≡ unsigned_numbers runs.now }
+{
+    let (at, item) = counters_of(runs);
+    let value = if at.same > 0 {
+        unsigned_number(item)
+    } else {
+        0
+    };
+    UnsignedCursor { at, value }
 }
 
 impl<'a> UnsignedCursor<'a> {
@@ -53,11 +145,7 @@ impl<'a> UnsignedCursor<'a> {
     {
         match RunCursor::over(bytes, most) {
             Err(fault) => Err(fault),
-            Ok(runs) => Ok(UnsignedCursor {
-                runs,
-                more: 0,
-                value: None,
-            }),
+            Ok(runs) => Ok(numbers_of(&runs)),
         }
     }
 
@@ -65,7 +153,7 @@ impl<'a> UnsignedCursor<'a> {
     pub fn left(&self) -> u64
         ensures { result ≡ length self.now }
     {
-        self.more + self.runs.left()
+        self.at.same + self.at.nulls + (self.at.literal + self.at.left)
     }
 
     /// The same cursor again.
@@ -73,8 +161,7 @@ impl<'a> UnsignedCursor<'a> {
         ensures { result ≡ self.now }
     {
         UnsignedCursor {
-            runs: self.runs.again(),
-            more: self.more,
+            at: self.at,
             value: self.value,
         }
     }
@@ -83,12 +170,19 @@ impl<'a> UnsignedCursor<'a> {
     pub fn skip(&mut self, n: u64)
         ensures { self.new ≡ drop n self.old }
     {
-        if n <= self.more {
-            self.more -= n;
+        if n <= self.at.same {
+            self.at.same -= n;
             return;
         }
-        self.runs.skip(n - self.more);
-        self.more = 0;
+        let n = n - self.at.same;
+        self.at.same = 0;
+        if n <= self.at.nulls {
+            self.at.nulls -= n;
+            return;
+        }
+        let mut runs = runs_from::<UnsignedItem>(&self.at);
+        runs.skip(n - self.at.nulls);
+        *self = numbers_of(&runs);
     }
 
     /// The next value, and how often it comes next at least. It goes on by none.
@@ -96,10 +190,13 @@ impl<'a> UnsignedCursor<'a> {
         ensures end { IfNone result (self.now ≡ []) }
         ensures like { IfSome result (λ r. (1 ≤ r.1) × (r.1 ≤ length self.now) × (take r.1 self.now ≡ replicate r.1 r.0)) }
     {
-        if self.more > 0 {
-            return Some((self.value, self.more));
+        if self.at.same > 0 {
+            return Some((Some(self.value), self.at.same));
         }
-        match self.runs.like() {
+        if self.at.nulls > 0 {
+            return Some((None, self.at.nulls));
+        }
+        match runs_from::<UnsignedItem>(&self.at).like() {
             None => None,
             Some((entry, k)) => Some((number_of(entry), k)),
         }
@@ -111,22 +208,23 @@ impl<'a> UnsignedCursor<'a> {
         ensures end { IfNone result ((self.old ≡ []) × (self.new ≡ [])) }
         ensures next { IfSome result (λ value. self.old ≡ value ∷ self.new) }
     {
-        if self.more > 0 {
-            self.more -= 1;
-            return Some(self.value);
+        if self.at.same > 0 {
+            self.at.same -= 1;
+            return Some(Some(self.value));
         }
-        self.runs.enter();
-        match self.runs.literal_number() {
-            Some(n) => return Some(Some(n)),
-            None => {}
+        if self.at.literal > 0 {
+            return match literal_number(&mut self.at) {
+                None => None,
+                Some(n) => Some(Some(n)),
+            };
         }
-        match self.runs.next_alike() {
-            None => None,
-            Some((entry, k)) => {
-                self.value = number_of(entry);
-                self.more = k - 1;
-                Some(self.value)
-            }
+        if self.at.nulls > 0 {
+            self.at.nulls -= 1;
+            return Some(None);
         }
+        if self.at.left == 0 {
+            return None;
+        }
+        opened(&mut self.at, &mut self.value)
     }
 }

@@ -1,13 +1,23 @@
-use Rattle.std.proofs.Common.{arith, ap, ◌∙◌, drop}
-use Rattle.std.specs.Option.{option_map}
+use Rattle.std.proofs.Common.{arith, ap, ◌∙◌, ◌-◌, drop}
 use Rattle.am_leb.specs.Leb.{signed_value}
+use Rattle.am_runs.specs.Items.{signed_end}
 use Rattle.am_runs.specs.Typed.{signed_numbers}
-use Rattle.am_runs.proofs.Spelled.{map_drop}
-use Rattle.am_runs.proofs.Taken.{drop_held, drop_past}
+use Rattle.am_runs.specs.Counters.{entries_from}
+use Rattle.am_runs.proofs.Counted.{drop_same, drop_nulls, drop_more}
 use Rattle.am_runs.proofs.signed.SignedCursor.skip.Goals as goal
 
 pub returns-then-n-self : goal.returns-then-n-self
-returns-then-n-self c = drop_held c.args.n c.self.inside.more c.self.inside.value (signed_numbers c.self.inside.runs) (omega arith) ∙ ap (drop c.args.n) c.self.view_is
+returns-then-n-self c =
+    let at = c.self.inside.at in
+    drop_same signed_value c.args.n at.same at.nulls c.self.inside.value (entries_from signed_end at.literal at.left at.rest.now) (omega arith) ∙ ap (drop c.args.n) c.self.view_is
+
+pub returns-then-n-self-2 : goal.returns-then-n-self-2
+returns-then-n-self-2 c =
+    let at = c.self.inside.at in
+    drop_nulls signed_value c.args.n at.same at.nulls c.self.inside.value (entries_from signed_end at.literal at.left at.rest.now) (omega arith) (omega arith) ∙ ap (drop c.args.n) c.self.view_is
 
 pub returns : goal.returns
-returns c = ap signed_numbers c.skip.ensures ∙ map_drop (option_map signed_value) _ c.self.inside.runs ∙ drop_past c.args.n c.self.inside.more c.self.inside.value (signed_numbers c.self.inside.runs) (omega arith) ∙ ap (drop c.args.n) c.self.view_is
+returns c =
+    let at = c.self.inside.at in
+    c.self-2.view_is ∙ c.numbers_of.ensures ∙ ap signed_numbers c.skip.ensures ∙ ap (λ l. signed_numbers (drop (c.args.n - at.same - at.nulls) l)) c.runs_from-runs.ensures
+    ∙ drop_more signed_value c.args.n at.same at.nulls c.self.inside.value (entries_from signed_end at.literal at.left at.rest.now) (omega arith) (omega arith) ∙ ap (drop c.args.n) c.self.view_is

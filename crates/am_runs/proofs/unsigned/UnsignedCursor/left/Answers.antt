@@ -1,8 +1,12 @@
-use Rattle.std.proofs.Common.{arith, ap, length}
-use Rattle.std.specs.Option.{option_map}
+use Rattle.std.proofs.Common.{ap, sym, ◌∙◌, ◌+◌, length}
 use Rattle.am_leb.specs.Leb.{unsigned_value}
-use Rattle.am_runs.proofs.Taken.{length-held}
+use Rattle.am_runs.specs.Items.{unsigned_end}
+use Rattle.am_runs.specs.Counters.{entries_from}
+use Rattle.am_runs.proofs.Entries.{length-entries}
+use Rattle.am_runs.proofs.Counted.{length-counted}
 use Rattle.am_runs.proofs.unsigned.UnsignedCursor.left.Goals as goal
 
 pub returns : goal.returns
-returns c = omega (arith, c.left.ensures, length-held (option_map unsigned_value) c.self.inside.more c.self.inside.value c.self.inside.runs, ap length c.self.view_is)
+returns c =
+    let at = c.self.inside.at in
+    sym (ap length (sym c.self.view_is) ∙ length-counted unsigned_value at.same at.nulls c.self.inside.value (entries_from unsigned_end at.literal at.left at.rest.now) ∙ ap (λ n. at.same + at.nulls + n) (length-entries _ _ _ c.self.invariant.holds))

@@ -2,27 +2,18 @@ use Rattle.std.proofs.Common.{arith, sym, ap, ◌∙◌, take, length}
 use Rattle.std.specs.Option.{option_copied, option_map}
 use Rattle.std.proofs.lemmas.List.{length-map}
 use Rattle.am_leb.specs.Leb.{unsigned_value}
+use Rattle.am_runs.specs.Items.{unsigned_end}
 use Rattle.am_runs.specs.Typed.{unsigned_numbers}
+use Rattle.am_runs.specs.Counters.{entries_from}
 use Rattle.am_runs.proofs.Spelled.{like_mapped}
-use Rattle.am_runs.proofs.Taken.{like_item_or_null, held_none, length-held, take_held}
+use Rattle.am_runs.proofs.Counted.{counted_none}
 use Rattle.am_runs.proofs.unsigned.UnsignedCursor.like.Goals as goal
-
-pub returns-then-self-gt0-clause-like : goal.returns-then-self-gt0-clause-like
-returns-then-self-gt0-clause-like c = (
-  omega arith,
-  omega (arith, length-held (option_map unsigned_value) c.self.inside.more c.self.inside.value c.self.inside.runs, ap length c.self.view_is),
-  ap (take c.self.inside.more) (sym c.self.view_is) ∙ take_held c.self.inside.more c.self.inside.value (unsigned_numbers c.self.inside.runs),
-)
-
-pub returns-in-None-clause-end : goal.returns-in-None-clause-end
-returns-in-None-clause-end c = sym c.self.view_is ∙ held_none c.self.inside.more c.self.inside.value (unsigned_numbers c.self.inside.runs) (omega arith) ∙ ap unsigned_numbers c.in-None.ensures.end
-
-pub number_of-requires : goal.number_of-requires
-number_of-requires c = like_item_or_null _ c.self.inside.runs c.in-Some.k _ c.self.invariant.0 c.in-Some.ensures.like.0 c.in-Some.ensures.like.2
 
 pub returns-in-Some-clause-like : goal.returns-in-Some-clause-like
 returns-in-Some-clause-like c =
     let k = c.in-Some.k in
     let l = c.in-Some.ensures.like in
-    let bare = sym c.self.view_is ∙ held_none c.self.inside.more c.self.inside.value (unsigned_numbers c.self.inside.runs) (omega arith) in
-    (l.0, omega (arith, l.1, ap length bare, length-map c.self.inside.runs (option_map unsigned_value)), ap (take k) bare ∙ like_mapped (option_map unsigned_value) c.self.inside.runs k (option_copied c.in-Some.entry) _ c.number_of.ensures l.2)
+    let at = c.self.inside.at in
+    let runs = c.runs_from.result in
+    let bare = sym c.self.view_is ∙ counted_none unsigned_value at.same at.nulls c.self.inside.value (entries_from unsigned_end at.literal at.left at.rest.now) (omega arith) (omega arith) ∙ ap unsigned_numbers (sym c.runs_from.ensures) in
+    (l.0, omega (arith, l.1, ap length bare, length-map runs (option_map unsigned_value)), ap (take k) bare ∙ like_mapped (option_map unsigned_value) runs k (option_copied c.in-Some.entry) _ c.number_of.ensures l.2)

@@ -1,23 +1,14 @@
-use Rattle.std.proofs.Common.{arith, sym, subst, ◌∙◌, ◌^◌}
-use Rattle.std.specs.Option.{option_copied}
+use Rattle.std.proofs.Common.{arith, ap, sym, ◌∙◌}
 use Rattle.am_leb.specs.Leb.{unsigned_value}
 use Rattle.am_runs.specs.Items.{unsigned_end}
-use Rattle.am_runs.specs.Typed.{AllItems, unsigned_numbers}
-use Rattle.am_runs.proofs.Taken.{AllItems-behind, held_first, held_none, fits_taken, taken_number}
+use Rattle.am_runs.specs.Typed.{unsigned_numbers}
+use Rattle.am_runs.specs.Counters.{entries_from}
+use Rattle.am_runs.proofs.Entries.{entries-none}
+use Rattle.am_runs.proofs.Counted.{counted_none}
 use Rattle.am_runs.proofs.unsigned.UnsignedCursor.next.Goals as goal
 
-pub returns-then-self-gt0-clause-next : goal.returns-then-self-gt0-clause-next
-returns-then-self-gt0-clause-next c = sym c.self.view_is ∙ held_first c.self.inside.more c.self.inside.value (unsigned_numbers c.self.inside.runs) (omega arith)
-
-pub invariant_of-self-in-Some-next_alike : goal.invariant_of-self-in-Some-next_alike
-invariant_of-self-in-Some-next_alike c =
-    let e = sym (c.in-None.ensures.none ∙ c.enter.ensures) ∙ c.in-Some-next_alike.ensures.next.1 in (
-      AllItems-behind _ c.in-Some-next_alike.k _ c.next_alike.new.self (subst (AllItems unsigned_end) e c.self.invariant.0),
-      omega (arith, fits_taken c.in-Some-next_alike.k _ c.self.inside.runs c.next_alike.new.self (2 ^ 64) e (omega (arith, c.self.invariant.1))),
-    )
-
-pub returns-in-Some-next_alike-clause-next : goal.returns-in-Some-next_alike-clause-next
-returns-in-Some-next_alike-clause-next c =
-    let e = sym (c.in-None.ensures.none ∙ c.enter.ensures) ∙ c.in-Some-next_alike.ensures.next.1 in
-    sym c.self.view_is ∙ held_none c.self.inside.more c.self.inside.value (unsigned_numbers c.self.inside.runs) (omega arith)
-    ∙ taken_number unsigned_value c.in-Some-next_alike.k (option_copied c.in-Some-next_alike.entry) c.number_of-self-inside.result c.self.inside.runs c.next_alike.new.self c.in-Some-next_alike.ensures.next.0 e c.number_of-self-inside.ensures
+pub returns-then-self-eq0-clause-end : goal.returns-then-self-eq0-clause-end
+returns-then-self-eq0-clause-end c =
+    let at = c.self.inside.at in
+    let e = sym c.self.view_is ∙ counted_none unsigned_value at.same at.nulls c.self.inside.value (entries_from unsigned_end at.literal at.left at.rest.now) (omega arith) (omega arith) ∙ ap unsigned_numbers (entries-none unsigned_end _ _ (omega arith)) in
+    (e, e)

@@ -1,0 +1,318 @@
+-- What a cursor of numbers holds, and how it goes on.
+use Rattle.std.proofs.Common.{◌≡◌, ℕ, suc, zero, ◌+◌, ◌*◌, ◌%◌, ◌-◌, ◌<◌, ◌≤◌, ◌^◌, List, get_or, [], ◌∷◌, ◌++◌, length, take, drop, map, Option, Some, None, Result, Ok, Err, ℤ, pos, negsuc, refl, sym, ap, ◌∙◌, subst, arith, zero-add, length-append}
+use Rattle.std.specs.Prelude.{replicate}
+use Rattle.std.specs.Option.{option_map}
+use Rattle.std.proofs.lemmas.List.{length-replicate, length-drop, take_all}
+use Rattle.am_leb.specs.declared.LebFault.{LebFault}
+use Rattle.am_leb.specs.Leb.{unsigned_value, signed_value}
+use Rattle.am_leb.specs.Reading.{first_unsigned, first_signed, low_value}
+use Rattle.am_leb.proofs.OneByte.{first_unsigned-low, first_signed-low}
+use Rattle.am_leb.proofs.Answering.{first_signed-value}
+use Rattle.am_runs.specs.declared.place.Kind.{Kind}
+use Rattle.am_runs.specs.declared.place.Kind.TheVariants as kinds
+use Rattle.am_runs.specs.Items.{length_read, unsigned_end, signed_end}
+use Rattle.am_runs.specs.Typed.{AllItems}
+use Rattle.am_runs.specs.Walking.{Place, open_run, open_by, open_at, open_nulls, open_repeat, within_opened, entry_by, literal_step, step_at, step, listed, entries, holds_behind, HasEntries, Takes}
+use Rattle.am_runs.specs.Counters.{in_literal, entries_from, counted, IsCounted}
+use Rattle.am_runs.proofs.Entries.{entries-more, HasEntries-more, never_ends}
+use Rattle.am_runs.proofs.Jumping.{step-opened, from_same, entries_same}
+use Rattle.am_runs.proofs.Taken.{take_repeat, take_nulls, entries-taken, AllItems-behind, held_first, held_none, drop_held, drop_past, length-held, map_taken}
+use Rattle.am_runs.proofs.Spelled.{map_drop}
+
+-- ---- at most as many are left in the run as in all
+
+count_literal : (n m : ℕ) (holds : Place → Type 0) → ((p : Place) → holds p → p.count ≤ n) → (rest : List ℕ) (o : Option ℕ) → holds_behind holds (literal_step m rest o) → suc m ≤ suc n
+count_literal n m holds f rest None h = absurd h
+count_literal n m holds f rest (Some len) h = let q : m ≤ n = f (in_literal m (drop len rest)) h in omega arith
+
+count_next : (end : List ℕ → Option ℕ) (n m : ℕ) (holds : Place → Type 0) → ((p : Place) → holds p → p.count ≤ n) → (k : Kind) (item rest : List ℕ) → holds_behind holds (entry_by end k m item rest) → suc m ≤ suc n
+count_next end n m holds f kinds.Repeat item rest h = let q : m ≤ n = f (record { kind = kinds.Repeat; count = m; item = item; rest = rest }) h in omega arith
+count_next end n m holds f kinds.Nulls item rest h = let q : m ≤ n = f (record { kind = kinds.Nulls; count = m; item = item; rest = rest }) h in omega arith
+count_next end n m holds f kinds.Literal item rest h = count_literal n m holds f rest (end rest) h
+
+count_at : (end : List ℕ → Option ℕ) (n : ℕ) (holds : Place → Type 0) → ((p : Place) → holds p → p.count ≤ n) → (m : ℕ) (p : Place) → holds_behind holds (step_at end m p) → m ≤ suc n
+count_at end n holds f zero p h = omega arith
+count_at end n holds f (suc m) p h = count_next end n m holds f p.kind p.item p.rest h
+
+pub count-le : (end : List ℕ → Option ℕ) (n : ℕ) (p : Place) → HasEntries end n p → p.count ≤ n
+unfolding HasEntries
+count-le end zero p h = omega (arith, h.0)
+count-le end (suc n) p h = count_at end n (HasEntries end n) (count-le end n) p.count p h
+
+-- ---- other places with the same entries
+
+between-step : (end : List ℕ → Option ℕ) (p : Place) → p.count ≡ 0 → step end p ≡ step end (in_literal 0 p.rest)
+between-step end p e = ap (λ n. step_at end n p) e
+
+between-holds : (end : List ℕ → Option ℕ) (n : ℕ) (p : Place) → p.count ≡ 0 → HasEntries end n p → HasEntries end n (in_literal 0 p.rest)
+unfolding HasEntries
+between-holds end zero p e h = (refl, h.1)
+between-holds end (suc n) p e h = subst (holds_behind (HasEntries end n)) (between-step end p e) h
+
+between-entries : (end : List ℕ → Option ℕ) (n : ℕ) (p : Place) → p.count ≡ 0 → entries end n p ≡ entries end n (in_literal 0 p.rest)
+unfolding entries
+between-entries end zero p e = refl
+between-entries end (suc n) p e = ap (listed (entries end n)) (between-step end p e)
+
+-- the item of a place in a literal run doesn't matter
+literal-step : (end : List ℕ → Option ℕ) (p : Place) → p.kind ≡ kinds.Literal → (n : ℕ) → step_at end n p ≡ step_at end n (in_literal p.count p.rest)
+literal-step end p e zero = refl
+literal-step end p e (suc n) = ap (λ k. entry_by end k n p.item p.rest) e
+
+literal-holds : (end : List ℕ → Option ℕ) (n : ℕ) (p : Place) → p.kind ≡ kinds.Literal → HasEntries end n p → HasEntries end n (in_literal p.count p.rest)
+unfolding HasEntries
+literal-holds end zero p e h = h
+literal-holds end (suc n) p e h = subst (holds_behind (HasEntries end n)) (literal-step end p e p.count) h
+
+literal-entries : (end : List ℕ → Option ℕ) (n : ℕ) (p : Place) → p.kind ≡ kinds.Literal → entries end n p ≡ entries end n (in_literal p.count p.rest)
+unfolding entries
+literal-entries end zero p e = refl
+literal-entries end (suc n) p e = ap (listed (entries end n)) (literal-step end p e p.count)
+
+-- ---- a place in counters
+
+-- the counters hold the entries from a place: copies of an item, and what comes from the bytes
+pub record Shows (end : List ℕ → Option ℕ) (n : ℕ) (p : Place) (same nulls literal left : ℕ) (item rest : List ℕ) : Type 0 where
+  pub held : IsCounted end same nulls literal left rest
+  pub list : entries end n p ≡ replicate same (Some item) ++ (replicate nulls None ++ entries_from end literal left rest)
+
+alone : (end : List ℕ → Option ℕ) (left : ℕ) (rest : List ℕ) → entries_from end 0 left rest ≡ entries end left (in_literal 0 rest)
+alone end left rest = ap (λ m. entries end m (in_literal 0 rest)) (zero-add left)
+
+behind_run : (end : List ℕ → Option ℕ) (n : ℕ) (p : Place) (x : Option (List ℕ)) → Takes end p x p.count (record { kind = p.kind; count = p.count - p.count; item = p.item; rest = p.rest }) → HasEntries end n p
+    → HasEntries end (0 + (n - p.count)) (in_literal 0 p.rest) × (entries end n p ≡ replicate p.count x ++ entries_from end 0 (n - p.count) p.rest)
+behind_run end n p x t h =
+    let l = count-le end n p h in
+    let to : Place = record { kind = p.kind; count = p.count - p.count; item = p.item; rest = p.rest } in
+    let e : p.count - p.count ≡ 0 = omega arith in (
+      subst (λ m. HasEntries end m (in_literal 0 p.rest)) (sym (zero-add (n - p.count))) (between-holds end (n - p.count) to e (t.0.goes n l h)),
+      entries-taken end n p x p.count to t l h ∙ ap (λ list. replicate p.count x ++ list) (between-entries end (n - p.count) to e ∙ sym (alone end (n - p.count) p.rest)),
+    )
+
+pub shows_repeat : (end : List ℕ → Option ℕ) (n : ℕ) (p : Place) → p.kind ≡ kinds.Repeat → HasEntries end n p → AllItems end (entries end n p) → n < 2 ^ 64 → Shows end n p p.count 0 0 (n - p.count) p.item p.rest
+shows_repeat end n p e h i f =
+    let b = behind_run end n p (Some p.item) (take_repeat end p p.count e (omega arith)) h in
+    let l = count-le end n p h in
+    record {
+      held = record {
+        holds = b.0;
+        items = AllItems-behind end p.count (Some p.item) (entries_from end 0 (n - p.count) p.rest) (subst (AllItems end) b.1 i);
+        apart = λ _. refl;
+        fits = omega arith;
+      };
+      list = b.1;
+    }
+
+pub shows_nulls : (end : List ℕ → Option ℕ) (n : ℕ) (p : Place) (item : List ℕ) → p.kind ≡ kinds.Nulls → HasEntries end n p → AllItems end (entries end n p) → n < 2 ^ 64 → Shows end n p 0 p.count 0 (n - p.count) item p.rest
+shows_nulls end n p item e h i f =
+    let b = behind_run end n p None (take_nulls end p p.count e (omega arith)) h in
+    let l = count-le end n p h in
+    record {
+      held = record {
+        holds = b.0;
+        items = AllItems-behind end p.count None (entries_from end 0 (n - p.count) p.rest) (subst (AllItems end) b.1 i);
+        apart = λ some. absurd (omega arith);
+        fits = omega arith;
+      };
+      list = b.1;
+    }
+
+pub shows_literal : (end : List ℕ → Option ℕ) (n : ℕ) (p : Place) (item : List ℕ) → p.kind ≡ kinds.Literal → HasEntries end n p → AllItems end (entries end n p) → n < 2 ^ 64 → Shows end n p 0 0 p.count (n - p.count) item p.rest
+shows_literal end n p item e h i f =
+    let l = count-le end n p h in
+    let q : n ≡ p.count + (n - p.count) = omega arith in
+    let whole : entries end n p ≡ entries_from end p.count (n - p.count) p.rest = literal-entries end n p e ∙ ap (λ m. entries end m (in_literal p.count p.rest)) q in
+    record {
+      held = record {
+        holds = subst (λ m. HasEntries end m (in_literal p.count p.rest)) q (literal-holds end n p e h);
+        items = subst (AllItems end) whole i;
+        apart = λ _. refl;
+        fits = omega arith;
+      };
+      list = whole;
+    }
+
+-- ---- the next run
+
+same_count : (p q : Place) → Some p ≡ Some q → 0 < q.count → 0 < p.count
+same_count p q e h = let r : p ≡ q = cc in subst (λ (o : Place). 0 < o.count) (sym r) h
+
+nulls_some : (bytes : List ℕ) (r : Result (ℕ × ℕ) LebFault) (p : Place) → Some p ≡ open_nulls bytes r → 0 < p.count
+nulls_some bytes (Err d) p e = absurd (cc)
+nulls_some bytes (Ok (zero, len)) p e = absurd (cc)
+nulls_some bytes (Ok (suc k, len)) p e = same_count p (record { kind = kinds.Nulls; count = suc k; item = []; rest = drop len bytes }) e (omega arith)
+
+repeat_some : (n : ℕ) (bytes : List ℕ) (o : Option ℕ) (p : Place) → Some p ≡ open_repeat (suc n) bytes o → 0 < p.count
+repeat_some n bytes None p e = absurd (cc)
+repeat_some n bytes (Some len) p e = same_count p (record { kind = kinds.Repeat; count = suc n; item = take len bytes; rest = drop len bytes }) e (omega arith)
+
+at_some : (end : List ℕ → Option ℕ) (z : ℤ) (tail : List ℕ) (p : Place) → Some p ≡ open_at end z tail → 0 < p.count
+at_some end (pos zero) tail p e = nulls_some tail (first_unsigned tail) p e
+at_some end (pos (suc n)) tail p e = repeat_some n tail (end tail) p e
+at_some end (negsuc n) tail p e = same_count p (in_literal (suc n) tail) e (omega arith)
+
+by_some : (end : List ℕ → Option ℕ) (bytes : List ℕ) (r : Result (ℤ × ℕ) LebFault) (p : Place) → Some p ≡ open_by end bytes r → 0 < p.count
+by_some end bytes (Err d) p e = absurd (cc)
+by_some end bytes (Ok (z, len)) p e = at_some end z (drop len bytes) p e
+
+pub run_some : (end : List ℕ → Option ℕ) (bytes : List ℕ) (p : Place) → Some p ≡ open_run end bytes → 0 < p.count
+run_some end bytes p e = by_some end bytes (first_signed bytes) p e
+
+-- the run that is opened has an entry at least
+pub opened-holds : (end : List ℕ → Option ℕ) (left : ℕ) (rest : List ℕ) (p : Place) → 0 < left → Some p ≡ open_run end rest → IsCounted end 0 0 0 left rest
+    → HasEntries end left p × AllItems end (entries end left p) × (entries_from end 0 left rest ≡ entries end left p) × (left < 2 ^ 64)
+opened-holds end left rest p h e w =
+    let c = run_some end rest p e in
+    let s : step end (in_literal 0 rest) ≡ step end p = step-opened end (in_literal 0 rest) p refl c e in
+    let same : entries_from end 0 left rest ≡ entries end left p = alone end left rest ∙ entries_same end left (in_literal 0 rest) p h s in (
+      from_same end left (in_literal 0 rest) p h s (subst (λ m. HasEntries end m (in_literal 0 rest)) (zero-add left) w.holds),
+      subst (AllItems end) same w.items,
+      same,
+      omega (arith, w.fits),
+    )
+
+pub run_there : (end : List ℕ → Option ℕ) (left : ℕ) (rest : List ℕ) → 0 < left → None ≡ open_run end rest → IsCounted end 0 0 0 left rest → ⊥
+run_there end left rest h e w = never_ends end (0 + left) (in_literal 0 rest) (omega arith) (ap (within_opened end) e) w.holds
+
+-- ---- the first item of a literal run
+
+pub literal_steps : (end : List ℕ → Option ℕ) (n : ℕ) (rest : List ℕ) (len : ℕ) → 0 < n → Some len ≡ end rest → Some (Some (take len rest), in_literal (n - 1) (drop len rest)) ≡ step end (in_literal n rest)
+literal_steps end zero rest len h e = absurd (omega arith)
+literal_steps end (suc n) rest len h e =
+    ap (λ m. Some (Some (take len rest), in_literal m (drop len rest))) (let q : suc n - 1 ≡ n = omega arith in q) ∙ ap (literal_step n rest) e
+
+literal_stops : (end : List ℕ → Option ℕ) (n : ℕ) (rest : List ℕ) → 0 < n → None ≡ end rest → None ≡ step end (in_literal n rest)
+literal_stops end zero rest h e = absurd (omega arith)
+literal_stops end (suc n) rest h e = ap (literal_step n rest) e
+
+pub literal_found : (end : List ℕ → Option ℕ) (same nulls literal left : ℕ) (rest : List ℕ) → 0 < literal → IsCounted end same nulls literal left rest → None ≡ end rest → ⊥
+literal_found end same nulls literal left rest h w e = never_ends end (literal + left) (in_literal literal rest) (omega arith) (literal_stops end literal rest h e) w.holds
+
+pub literal_bytes : (end : List ℕ → Option ℕ) (same nulls literal left : ℕ) (rest : List ℕ) → None ≡ end [] → 0 < literal → IsCounted end same nulls literal left rest → 0 < length rest
+literal_bytes end same nulls literal left [] e h w = absurd (literal_found end same nulls literal left [] h w e)
+literal_bytes end same nulls literal left (b ∷ rest) e h w = omega arith
+
+-- behind the next item of a literal run
+pub literal_next : {A : Type 0} (end : List ℕ → Option ℕ) (f : List ℕ → A) (same nulls literal left : ℕ) (rest : List ℕ) (len : ℕ) (v : A) → 0 < literal → IsCounted end same nulls literal left rest → Some len ≡ end rest → v ≡ f (take len rest)
+    → IsCounted end same nulls (literal - 1) left (drop len rest) × (map (option_map f) (entries_from end literal left rest) ≡ Some v ∷ map (option_map f) (entries_from end (literal - 1) left (drop len rest)))
+literal_next end f same nulls literal left rest len v h w e x =
+    let next : Option (List ℕ) × Place = (Some (take len rest), in_literal (literal - 1) (drop len rest)) in
+    let s = literal_steps end literal rest len h e in
+    let q : literal + left - 1 ≡ literal - 1 + left = omega arith in
+    let list : entries_from end literal left rest ≡ Some (take len rest) ∷ entries_from end (literal - 1) left (drop len rest) =
+    entries-more end (literal + left) (in_literal literal rest) next (omega arith) s ∙ ap (λ m. Some (take len rest) ∷ entries end m next.1) q in
+    let items = subst (AllItems end) list w.items in (
+      record {
+        holds = subst (λ m. HasEntries end m next.1) q (HasEntries-more end (literal + left) (in_literal literal rest) next (omega arith) s w.holds);
+        items = items.1;
+        apart = λ some. w.apart (omega arith);
+        fits = omega (arith, w.fits);
+      },
+      ap (map (option_map f)) list ∙ ap (λ y. Some y ∷ map (option_map f) (entries_from end (literal - 1) left (drop len rest))) (sym x),
+    )
+
+-- ---- copies
+
+pub fewer : (end : List ℕ → Option ℕ) (same same' nulls nulls' literal left : ℕ) (rest : List ℕ) → same' ≤ same → nulls' ≤ nulls → IsCounted end same nulls literal left rest → IsCounted end same' nulls' literal left rest
+fewer end same same' nulls nulls' literal left rest s n w = record {
+  holds = w.holds;
+  items = w.items;
+  apart = λ some. let q : nulls ≡ 0 = w.apart some in omega arith;
+  fits = omega (arith, w.fits);
+}
+
+-- the numbers behind the run that is opened
+pub first_same : {A : Type 0} (f : List ℕ → A) (list list' : List (Option (List ℕ))) (k : ℕ) (item : List ℕ) (v : A) → list ≡ replicate k (Some item) ++ list' → 0 < k → v ≡ f item → map (option_map f) list ≡ Some v ∷ counted f (k - 1) v 0 list'
+first_same f list list' k item v e h x =
+    ap (map (option_map f)) e ∙ map_taken (option_map f) k (Some item) list' ∙ ap (λ y. replicate k (Some y) ++ map (option_map f) list') (sym x) ∙ held_first k (Some v) (map (option_map f) list') h
+
+pub first_null : {A : Type 0} (f : List ℕ → A) (list list' : List (Option (List ℕ))) (k : ℕ) (v : A) → list ≡ replicate k None ++ list' → 0 < k → map (option_map f) list ≡ None ∷ counted f 0 v (k - 1) list'
+first_null f list list' k v e h =
+    ap (map (option_map f)) e ∙ map_taken (option_map f) k None list' ∙ held_first k None (map (option_map f) list') h
+
+-- what the counters show
+pub counted_of : {A : Type 0} (f : List ℕ → A) (list list' : List (Option (List ℕ))) (same nulls : ℕ) (item : List ℕ) (v : A) → list ≡ replicate same (Some item) ++ (replicate nulls None ++ list') → (0 < same → v ≡ f item) → counted f same v nulls list' ≡ map (option_map f) list
+counted_of f list list' same nulls item v e x =
+    sym (ap (map (option_map f)) e ∙ map_taken (option_map f) same (Some item) (replicate nulls None ++ list') ∙ ap (λ l. replicate same (Some (f item)) ++ l) (map_taken (option_map f) nulls None list')
+    ∙ copies same x)
+  where
+    copies : (k : ℕ) → (0 < k → v ≡ f item) → replicate k (Some (f item)) ++ (replicate nulls None ++ map (option_map f) list') ≡ replicate k (Some v) ++ (replicate nulls None ++ map (option_map f) list')
+    copies zero x = refl
+    copies (suc k) x = ap (λ y. replicate (suc k) (Some y) ++ (replicate nulls None ++ map (option_map f) list')) (sym (x (omega arith)))
+
+pub counted_none : {A : Type 0} (f : List ℕ → A) (same nulls : ℕ) (v : A) (list : List (Option (List ℕ))) → same ≡ 0 → nulls ≡ 0 → counted f same v nulls list ≡ map (option_map f) list
+counted_none f same nulls v list s n = held_none same (Some v) (replicate nulls None ++ map (option_map f) list) s ∙ held_none nulls None (map (option_map f) list) n
+
+pub length-counted : {A : Type 0} (f : List ℕ → A) (same nulls : ℕ) (v : A) (list : List (Option (List ℕ))) → length (counted f same v nulls list) ≡ same + nulls + length list
+length-counted f same nulls v list =
+    omega (arith, length-append (replicate same (Some v)) (replicate nulls None ++ map (option_map f) list), length-replicate same (Some v), length-held (option_map f) nulls None list)
+
+-- ---- the run that is opened
+
+pub opened-count : (end : List ℕ → Option ℕ) (left : ℕ) (rest : List ℕ) (p : Place) → 0 < left → Some p ≡ open_run end rest → IsCounted end 0 0 0 left rest → p.count ≤ left
+opened-count end left rest p h e w = count-le end left p (opened-holds end left rest p h e w).0
+
+pub opened_repeat : {A : Type 0} (end : List ℕ → Option ℕ) (f : List ℕ → A) (left : ℕ) (rest : List ℕ) (p : Place) (v : A) → 0 < left → Some p ≡ open_run end rest → IsCounted end 0 0 0 left rest → p.kind ≡ kinds.Repeat → v ≡ f p.item
+    → IsCounted end (p.count - 1) 0 0 (left - p.count) p.rest × (map (option_map f) (entries_from end 0 left rest) ≡ Some v ∷ counted f (p.count - 1) v 0 (entries_from end 0 (left - p.count) p.rest))
+opened_repeat end f left rest p v h e w k x =
+    let o = opened-holds end left rest p h e w in
+    let s = shows_repeat end left p k o.0 o.1 o.3 in (
+      fewer end p.count (p.count - 1) 0 0 0 (left - p.count) p.rest (omega arith) (omega arith) s.held,
+      first_same f (entries_from end 0 left rest) (entries_from end 0 (left - p.count) p.rest) p.count p.item v (o.2 ∙ s.list) (run_some end rest p e) x,
+    )
+
+pub opened_nulls : {A : Type 0} (end : List ℕ → Option ℕ) (f : List ℕ → A) (left : ℕ) (rest : List ℕ) (p : Place) (v : A) → 0 < left → Some p ≡ open_run end rest → IsCounted end 0 0 0 left rest → p.kind ≡ kinds.Nulls
+    → IsCounted end 0 (p.count - 1) 0 (left - p.count) p.rest × (map (option_map f) (entries_from end 0 left rest) ≡ None ∷ counted f 0 v (p.count - 1) (entries_from end 0 (left - p.count) p.rest))
+opened_nulls end f left rest p v h e w k =
+    let o = opened-holds end left rest p h e w in
+    let s = shows_nulls end left p [] k o.0 o.1 o.3 in (
+      fewer end 0 0 p.count (p.count - 1) 0 (left - p.count) p.rest (omega arith) (omega arith) s.held,
+      first_null f (entries_from end 0 left rest) (entries_from end 0 (left - p.count) p.rest) p.count v (o.2 ∙ s.list) (run_some end rest p e),
+    )
+
+pub opened_literal : (end : List ℕ → Option ℕ) (left : ℕ) (rest : List ℕ) (p : Place) → 0 < left → Some p ≡ open_run end rest → IsCounted end 0 0 0 left rest → p.kind ≡ kinds.Literal
+    → IsCounted end 0 0 p.count (left - p.count) p.rest × (entries_from end 0 left rest ≡ entries_from end p.count (left - p.count) p.rest)
+opened_literal end left rest p h e w k =
+    let o = opened-holds end left rest p h e w in
+    let s = shows_literal end left p [] k o.0 o.1 o.3 in
+    (s.held, o.2 ∙ s.list)
+
+-- ---- the first byte of a literal run
+
+pub unsigned_nothing : None ≡ unsigned_end []
+unfolding first_unsigned
+unsigned_nothing = refl
+
+pub unsigned_low : (bytes : List ℕ) → 0 < length bytes → get_or bytes 0 0 < 128 → (Some 1 ≡ unsigned_end bytes) × (get_or bytes 0 0 ≡ unsigned_value (take 1 bytes))
+unsigned_low [] h l = absurd (omega arith)
+unsigned_low (b ∷ bytes) h l = (sym (ap length_read (first_unsigned-low (b ∷ bytes) bytes b l refl)), (let q : b ≡ b % 128 + 128 * 0 = omega arith in q))
+
+pub signed_low : (bytes : List ℕ) → 0 < length bytes → get_or bytes 0 0 < 128 → (Some 1 ≡ signed_end bytes) × (low_value (get_or bytes 0 0) ≡ signed_value (take 1 bytes))
+signed_low [] h l = absurd (omega arith)
+signed_low (b ∷ bytes) h l =
+    let e = first_signed-low (b ∷ bytes) bytes b l refl in
+    (sym (ap length_read e), first_signed-value (b ∷ bytes) (low_value b, 1) e)
+
+pub signed_nothing : None ≡ signed_end []
+unfolding first_signed
+signed_nothing = refl
+
+pub literal_taken : {A : Type 0} (end : List ℕ → Option ℕ) (f : List ℕ → A) (same nulls literal left : ℕ) (rest : List ℕ) (len : ℕ) (v : A) → 0 < literal → IsCounted end same nulls literal left rest → Some len ≡ end rest → v ≡ f (take len rest)
+    → IsCounted end same nulls (literal - 1) left (take (length rest - len) (drop len rest)) × (map (option_map f) (entries_from end literal left rest) ≡ Some v ∷ map (option_map f) (entries_from end (literal - 1) left (take (length rest - len) (drop len rest))))
+literal_taken end f same nulls literal left rest len v h w e x =
+    let whole : take (length rest - len) (drop len rest) ≡ drop len rest = take_all (length rest - len) (drop len rest) (omega (arith, length-drop len rest)) in
+    subst (λ r. IsCounted end same nulls (literal - 1) left r × (map (option_map f) (entries_from end literal left rest) ≡ Some v ∷ map (option_map f) (entries_from end (literal - 1) left r))) (sym whole)
+    (literal_next end f same nulls literal left rest len v h w e x)
+
+-- ---- leaving out
+
+pub drop_same : {A : Type 0} (f : List ℕ → A) (n same nulls : ℕ) (v : A) (list : List (Option (List ℕ))) → n ≤ same → counted f (same - n) v nulls list ≡ drop n (counted f same v nulls list)
+drop_same f n same nulls v list h = drop_held n same (Some v) (replicate nulls None ++ map (option_map f) list) h
+
+pub drop_nulls : {A : Type 0} (f : List ℕ → A) (n same nulls : ℕ) (v : A) (list : List (Option (List ℕ))) → same ≤ n → n - same ≤ nulls → counted f 0 v (nulls - (n - same)) list ≡ drop n (counted f same v nulls list)
+drop_nulls f n same nulls v list h g =
+    drop_held (n - same) nulls None (map (option_map f) list) g ∙ drop_past n same (Some v) (replicate nulls None ++ map (option_map f) list) h
+
+pub drop_more : {A : Type 0} (f : List ℕ → A) (n same nulls : ℕ) (v : A) (list : List (Option (List ℕ))) → same ≤ n → nulls ≤ n - same → map (option_map f) (drop (n - same - nulls) list) ≡ drop n (counted f same v nulls list)
+drop_more f n same nulls v list h g =
+    map_drop (option_map f) (n - same - nulls) list ∙ drop_past (n - same) nulls None (map (option_map f) list) g ∙ drop_past n same (Some v) (replicate nulls None ++ map (option_map f) list) h
