@@ -40,7 +40,7 @@ pub record SortsOnce {X : Type 0} (cmp : X → X → Ordering) : Type 0 where
   pub in_order : (xs : List X) → IsSorted cmp (sorted_by cmp xs)
   pub once : (xs ys : List X) → IsPermutation xs ys → sorted_by cmp ys ≡ sorted_by cmp xs
 
--- sorting ids, hashes, and operations of which those with one id are one
+-- sorting ids and hashes does so; sorting operations of which those with one id are one doesn't depend on their listing
 abbrev pub SortingIsFree : Type 0
 SortingIsFree =
     SortsOnce id_cmp × SortsOnce hash_cmp

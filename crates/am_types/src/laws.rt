@@ -7,7 +7,8 @@ pub fn orders_are_strict()
     ensures { OrdersAreStrict }
 {}
 
-/// Sorting ids, hashes or operations gives the same elements in order, however they were listed.
+/// Sorting ids or hashes keeps the elements, puts them in order, and gives the same however they were listed. Sorting
+/// operations of which those with one id are one gives the same however they were listed.
 #[tactic(auto, using(crate::proofs::Proved::sorting_is_free))]
 pub fn sorting_is_free()
     ensures { SortingIsFree }
