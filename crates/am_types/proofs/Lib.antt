@@ -7,6 +7,7 @@ pub mod Iterated
 pub mod Ancestry
 pub mod SettleLaws
 pub mod VerdictLaws
+pub mod FirstBad
 pub mod Listings
 pub mod Growth
 pub mod Agreement
@@ -29,6 +30,7 @@ pub mod DistinctOperations
 pub mod SharedAncestors
 pub mod LeastReady
 pub mod ReadsAlike
+pub mod References
 pub mod Proved
 pub mod SampleHashes
 pub mod Samples

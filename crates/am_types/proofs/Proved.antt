@@ -16,7 +16,9 @@ use Rattle.am_types.proofs.NumberLaws.{unsigned_is_shortest, signed_is_shortest}
 use Rattle.am_types.proofs.SameLaws.{same_change-true, change_itself}
 use Rattle.am_types.proofs.Ancestry.{ancestors_named, ancestors_closed, ancestors_least, Contains-from_filter}
 use Rattle.am_types.proofs.Growth.{among_at, found_among, ancestors_stay}
-use Rattle.am_types.proofs.VerdictLaws.{fits_by, fits_from}
+use Rattle.am_types.proofs.VerdictLaws.{fits_by, fits_from, answers_first}
+use Rattle.am_types.proofs.FirstBad.{finds_first_bad}
+use Rattle.am_types.proofs.References.{stands}
 use Rattle.am_types.proofs.SettleLaws.{settle_settles, settle_idle, settle_taken}
 use Rattle.am_types.proofs.Listings.{settle_sound}
 use Rattle.am_types.proofs.ReadsAlike as listing
@@ -77,8 +79,17 @@ ancestors_are_least C hs = record {
 pub fits_exactly : law.FitsExactly
 fits_exactly C c = (fits_by C c, fits_from C c)
 
+pub verdicts_are_first : law.VerdictsAreFirst
+verdicts_are_first = answers_first
+
+pub first_bad_is_least : law.FirstBadIsLeast
+first_bad_is_least = finds_first_bad
+
 pub ids_are_distinct : law.IdsAreDistinct
 ids_are_distinct = distinct_ids_valid
+
+pub references_are_there : law.ReferencesAreThere
+references_are_there C v x c t = stands C (grounds_valid C v) x c t x.op.key refl
 
 pub valid_sets_keep_rules : law.ValidSetsKeepRules
 valid_sets_keep_rules = keeps_rules
