@@ -31,6 +31,7 @@ pub mod SharedAncestors
 pub mod LeastReady
 pub mod ReadsAlike
 pub mod References
+pub mod Following
 pub mod Proved
 pub mod SampleHashes
 pub mod Samples

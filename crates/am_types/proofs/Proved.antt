@@ -19,6 +19,7 @@ use Rattle.am_types.proofs.Growth.{among_at, found_among, ancestors_stay}
 use Rattle.am_types.proofs.VerdictLaws.{fits_by, fits_from, answers_first}
 use Rattle.am_types.proofs.FirstBad.{finds_first_bad}
 use Rattle.am_types.proofs.References.{stands}
+use Rattle.am_types.proofs.Following.{follow_references}
 use Rattle.am_types.proofs.SettleLaws.{settle_settles, settle_idle, settle_taken}
 use Rattle.am_types.proofs.Listings.{settle_sound}
 use Rattle.am_types.proofs.ReadsAlike as listing
@@ -90,6 +91,9 @@ ids_are_distinct = distinct_ids_valid
 
 pub references_are_there : law.ReferencesAreThere
 references_are_there C v x c t = stands C (grounds_valid C v) x c t x.op.key refl
+
+pub elements_follow_references : law.ElementsFollowReferences
+elements_follow_references = follow_references
 
 pub valid_sets_keep_rules : law.ValidSetsKeepRules
 valid_sets_keep_rules = keeps_rules

@@ -14,7 +14,7 @@ use Rattle.am_types.specs.Fine.{FineOp, IsListPlace}
 use Rattle.am_types.specs.Members.{Member, changes}
 use Rattle.am_types.specs.Ancestors.{ancestors}
 use Rattle.am_types.specs.References.{element_known}
-use Rattle.am_types.specs.Laws.{IsReference, StandsSomewhere}
+use Rattle.am_types.specs.Laws.{IsReference, ReferenceIsThere}
 use Rattle.am_types.proofs.Orders.{same_id-true}
 use Rattle.am_types.proofs.DistinctIds.{ancestor_is_member, numbered_at, operation_of}
 use Rattle.am_types.proofs.Grounds.{Grounds, placed}
@@ -64,7 +64,7 @@ module _ (C : List Member) (g : Grounds C) (x : Operation) (c : Contains (all_op
         lower = subst (λ i. id_cmp i x.id ≡ Less) is (less_counter y.id x.id from.1);
       }
 
-  pub stands : x.op.insert ≡ true → (k : Key) → x.op.key ≡ k → StandsSomewhere (all_operations (changes C)) x k
+  pub stands : x.op.insert ≡ true → (k : Key) → x.op.key ≡ k → ReferenceIsThere (all_operations (changes C)) x k
   stands t Head e = tt
   stands t (Elem r) e = refers r e
   stands t (Name n) e = subst IsListPlace e (fine_op.insertion t).place

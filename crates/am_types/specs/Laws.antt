@@ -11,14 +11,15 @@ use Rattle.am_types.specs.Records.{OpId, Hash, ObjId, Key, Name, Head, Elem, Cha
 use Rattle.am_types.specs.Order.{id_cmp, hash_cmp, sorted_by}
 use Rattle.am_types.specs.Numbers.{unsigned_of, signed_of}
 use Rattle.am_types.specs.Same.{same_change}
-use Rattle.am_types.specs.Operations.{Operation, all_operations, ascending, DistinctIds, OneOperationPerId}
+use Rattle.am_types.specs.Operations.{Operation, all_operations, ascending, slot, DistinctIds, OneOperationPerId}
 use Rattle.am_types.specs.Members.{Member, changes, holds, holds_deps, heads, IsClosed, DistinctHashes}
 use Rattle.am_types.specs.Ancestors.{ancestors, IsLeastPart}
 use Rattle.am_types.specs.References.{has_good_references, first_bad}
 use Rattle.am_types.specs.Verdicts.{verdict, seq_clash, seq_gap, start_low, bad_reference, full, limit_passed, NoReasonApplies}
 use Rattle.am_types.specs.ValidSets.{Valid, JoinInTurn}
 use Rattle.am_types.specs.Deliver.{Sets, settle, IsSettled, TakesOne, MayCome, Waits}
-use Rattle.am_types.specs.Elements.{elements, inserts_into, part, RespectsReferences}
+use Rattle.am_types.specs.Elements.{elements, inserts_into, insertions, part, RespectsReferences}
+use Rattle.am_types.specs.Places.{slot_cmp}
 use Rattle.am_types.specs.Replay.{replay}
 use Rattle.am_types.specs.Rows.{rows}
 use Rattle.am_types.specs.Clocks.{covers}
@@ -134,16 +135,25 @@ pub record IsReference (A : List Operation) (x : Operation) (r : OpId) : Type 0 
   pub inserts : IsTrue (inserts_into x.op.obj insertion)
   pub lower : id_cmp r x.id ≡ Less
 
--- x names the front, or an element that is there
-abbrev pub StandsSomewhere : List Operation → Operation → Key → Type 0
-StandsSomewhere A x Head = ⊤
-StandsSomewhere A x (Elem r) = IsReference A x r
-StandsSomewhere A x (Name n) = ⊥
+-- the reference of an insertion x with such a key is there: the front, or such an element
+abbrev pub ReferenceIsThere : List Operation → Operation → Key → Type 0
+ReferenceIsThere A x Head = ⊤
+ReferenceIsThere A x (Elem r) = IsReference A x r
+ReferenceIsThere A x (Name n) = ⊥
 
 -- in a valid set each insertion stands at the front of its object, or behind an earlier insertion into it
 abbrev pub ReferencesAreThere : Type 0
 ReferencesAreThere = (C : List Member) → Valid C → (x : Operation) → Contains (all_operations (changes C)) x → IsTrue x.op.insert
-    → StandsSomewhere (all_operations (changes C)) x x.op.key
+    → ReferenceIsThere (all_operations (changes C)) x x.op.key
+
+-- the elements of o are the ids of the insertions into it, and each stands behind what its insertion names
+pub record FollowReferences (A : List Operation) (o : ObjId) : Type 0 where
+  pub ids : IsPermutation (map (λ x. x.id) (insertions A o)) (elements A o)
+  pub behind : (x : Operation) → Contains A x → IsTrue (inserts_into o x) → slot_cmp (elements A o) x.op.key (slot x) ≡ Less
+
+-- in a valid set each insertion gives one element, behind its reference
+abbrev pub ElementsFollowReferences : Type 0
+ElementsFollowReferences = (C : List Member) → Valid C → (o : ObjId) → FollowReferences (all_operations (changes C)) o
 
 -- ---- settling
 

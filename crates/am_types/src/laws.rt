@@ -1,5 +1,5 @@
 //! Laws over the definitions. Each function does nothing; its contract is the law.
-ghost use Rattle.am_types.specs.Laws.{OrdersAreStrict, SortingIsFree, NumbersAreShortest, SameIsEqual, AncestorsAreLeast, AncestorsKeepOrder, FitsExactly, VerdictsAreFirst, FirstBadIsLeast, ValidSetsKeepRules, IdsAreDistinct, ReferencesAreThere, SettlesInTurn, SettlingKeepsOrder, ListingIsFree, DepthCounts, ElementsOfPart, AncestorsAreRead, ViewsStay, AncestorsStay};
+ghost use Rattle.am_types.specs.Laws.{OrdersAreStrict, SortingIsFree, NumbersAreShortest, SameIsEqual, AncestorsAreLeast, AncestorsKeepOrder, FitsExactly, VerdictsAreFirst, FirstBadIsLeast, ValidSetsKeepRules, IdsAreDistinct, ReferencesAreThere, ElementsFollowReferences, SettlesInTurn, SettlingKeepsOrder, ListingIsFree, DepthCounts, ElementsOfPart, AncestorsAreRead, ViewsStay, AncestorsStay};
 
 /// Ids are totally ordered, hashes too, and only equal ones tie.
 #[tactic(auto, using(crate::proofs::Proved::orders_are_strict))]
@@ -68,6 +68,11 @@ pub fn ids_are_distinct()
 /// In a valid set each insertion stands at the front of its object, or behind an insertion of lesser id into it.
 pub fn references_are_there()
     ensures { ReferencesAreThere }
+{}
+
+/// In a valid set each insertion into an object gives one element of it, which stands behind its reference.
+pub fn elements_follow_references()
+    ensures { ElementsFollowReferences }
 {}
 
 /// Settling admits the ready changes one by one, the one of least hash first, ends, and leaves none ready.
