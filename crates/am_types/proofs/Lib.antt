@@ -36,6 +36,7 @@ pub mod Proved
 pub mod SampleHashes
 pub mod Samples
 pub mod TextSamples
+pub mod TableSamples
 pub mod CounterSamples
 pub mod DeliverySamples
 pub mod NoteSamples
