@@ -35,7 +35,7 @@ use Rattle.am_types.proofs.Rules.{keeps_rules}
 use Rattle.am_types.specs.Elements.{elements}
 
 pub orders_are_strict : law.OrdersAreStrict
-orders_are_strict = (record { total = id_total; ties = id_exact }, record { total = hash_total; ties = hash_exact })
+orders_are_strict = record { ids = record { total = id_total; ties = id_exact }; hashes = record { total = hash_total; ties = hash_exact } }
 
 pub sorting_is_free : law.SortingIsFree
 sorting_is_free = (
@@ -53,7 +53,7 @@ sorting_is_free = (
 )
 
 pub numbers_are_shortest : law.NumbersAreShortest
-numbers_are_shortest = (unsigned_is_shortest, signed_is_shortest)
+numbers_are_shortest = record { unsigned = unsigned_is_shortest; signed = signed_is_shortest }
 
 pub same_is_equal : law.SameIsEqual
 same_is_equal a b = (same_change-true a b, λ e. subst (λ c. same_change a c ≡ true) e (change_itself a))

@@ -34,8 +34,9 @@ pub record IsStrict {X : Type 0} (cmp : X → X → Ordering) : Type 0 where
   pub ties : (a b : X) → cmp a b ≡ Equal → a ≡ b
 
 -- ids are totally ordered, and so are hashes
-abbrev pub OrdersAreStrict : Type 0
-OrdersAreStrict = IsStrict id_cmp × IsStrict hash_cmp
+pub record OrdersAreStrict : Type 0 where
+  pub ids : IsStrict id_cmp
+  pub hashes : IsStrict hash_cmp
 
 -- sorting by cmp gives the same elements, in order, and doesn't depend on how they were listed
 pub record SortsOnce {X : Type 0} (cmp : X → X → Ordering) : Type 0 where
@@ -52,10 +53,9 @@ SortingIsFree =
 -- ---- values and changes
 
 -- the bytes spell the number, and no shorter list does
-abbrev pub NumbersAreShortest : Type 0
-NumbersAreShortest =
-    ((bytes : List ℕ) (n : ℕ) → IsBytes bytes → (unsigned_of bytes ≡ Some n) ↔ ((n < 2 ^ 64) × IsUleb bytes n))
-    × ((bytes : List ℕ) (n : ℤ) → IsBytes bytes → (signed_of bytes ≡ Some n) ↔ (FitsSigned w64 n × IsLeb bytes n))
+pub record NumbersAreShortest : Type 0 where
+  pub unsigned : (bytes : List ℕ) (n : ℕ) → IsBytes bytes → (unsigned_of bytes ≡ Some n) ↔ ((n < 2 ^ 64) × IsUleb bytes n)
+  pub signed : (bytes : List ℕ) (n : ℤ) → IsBytes bytes → (signed_of bytes ≡ Some n) ↔ (FitsSigned w64 n × IsLeb bytes n)
 
 -- comparing two changes part by part is equality
 abbrev pub SameIsEqual : Type 0
