@@ -5,10 +5,11 @@ use thiserror::Error;
 /// Why the contents of a chunk weren't read as a change.
 #[derive(Clone, Copy, Debug, PartialEq, Eq, Error)]
 pub enum ChangeFault {
-    /// No fine change has these contents, and no column is compressed.
+    /// No fine change has these contents, and they don't count as compressed.
     #[error("the contents are those of no change")]
     BadChange,
-    /// A column is compressed by DEFLATE. This is told before anything else that is wrong behind the column metadata.
+    /// The parts in front of the columns can be read, each number within 64 bits, and list a column that is compressed by
+    /// DEFLATE. This is told whatever else is wrong, in these parts or behind them.
     #[error("a column is compressed")]
     CompressedColumn,
     /// The allocator had no memory.

@@ -19,7 +19,7 @@ fn is_id(id: IdRef<'_>) -> bool
     id.counter >= 1 && id.counter < 1 << 53 && !id.actor.is_empty() && id.actor.len() <= 1024
 }
 
-// Whether the object is the root or has an id.
+// Whether the object is the root or has an id within the limits.
 fn is_object(obj: ObjRef<'_>) -> bool
     ensures { IsTrue result ↔ IsObject (object_of obj.entry) }
 {
@@ -29,7 +29,7 @@ fn is_object(obj: ObjRef<'_>) -> bool
     }
 }
 
-// Whether an element has an id.
+// Whether an element has an id within the limits. Names are texts, and so always are.
 fn is_key(key: KeyRef<'_>) -> bool
     ensures { IsTrue result ↔ IsKey (key_of key.entry) }
 {
@@ -43,7 +43,7 @@ fn is_key(key: KeyRef<'_>) -> bool
     }
 }
 
-// Whether each is an id.
+// Whether each id is within the limits.
 fn are_ids(ids: &[OpId]) -> bool
     ensures { IsTrue result ↔ All IsId ids.now }
 {
@@ -93,7 +93,7 @@ fn mark_known(mark: &Option<Text>)
     }
 }
 
-// Whether an insertion makes an element, and replaces nothing.
+// Whether an insertion stands in a list or a text, makes an element there, and replaces nothing.
 fn is_fine_insertion(op: &Op) -> bool
     ensures { IsTrue result ↔ FineInsertion op.now }
 {
@@ -180,7 +180,8 @@ fn has_good_numbers(change: &Change) -> bool
 }
 
 /// Whether a change is fine: each of its parts is within its limits, its dependencies and the predecessors of each
-/// operation ascend, and insertions, deletions and marks are as the Automerge Binary Document Format has them.
+/// operation ascend, the front is named by insertions alone, and insertions, deletions and marks are as they must be. Some
+/// of this is the Automerge Binary Document Format's, some amstore's profile.
 pub fn is_fine(change: &Change) -> bool
     ensures { IsTrue result ↔ Fine change.now }
 {

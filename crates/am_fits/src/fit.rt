@@ -60,7 +60,7 @@ fn has_gap(reached: &Reached<'_>, change: &Change) -> bool
     change.seq > 1 && reached.last_seq(change.actor.as_slice()) < change.seq - 1
 }
 
-/// The first dependency with an operation whose counter is not below the start.
+/// The first dependency that ends at the start or above.
 fn low_dependency(graph: &Graph, change: &Change) -> Option<Hash>
     ensures { ForSet graph.now (λ C. result ≡ find (λ h. option_map_or (λ m. nat_le change.now.start (max m.change)) (member C h) false) change.now.deps) }
 {

@@ -7,7 +7,8 @@ ghost use Rattle.am_graph.specs.Reaches.{higher, reach_at, Raised, Merged};
 pub struct Reach {
     /// The greatest seq.
     pub seq: u64,
-    /// The least counter above those of all their operations, at least 1 where there is a change.
+    /// The greatest sum of a start and a number of operations: the least counter above those of all their operations, but
+    /// no less than any start.
     pub end: u64,
 }
 

@@ -1,5 +1,6 @@
 -- What a store keeps, and what a delivery does to it.
---     Kept                        the two sets of a store: closed, in order of arrival, and waiting, ascending by hash
+--     Kept                        the two sets of a store: closed, in the order in which they joined, and waiting,
+--                                 ascending by hash
 --     own_hash c                  the hash of the change c
 --     with_hashes cs              the changes cs, each beside its own hash
 --     IsKept k                    what holds of the two sets of each store

@@ -30,7 +30,7 @@ use std::collections::BTreeMap;
 use std::marker::Model;
 
 /// A closed set of changes, and those that wait for dependencies. Contracts see the two lists of changes, each beside
-/// its hash: the closed ones in the order in which they came, the waiting ones ascending by hash.
+/// its hash: the closed ones in the order in which they joined, the waiting ones ascending by hash.
 #[derive(Drop)]
 pub struct Store {
     closed: Vec<(Hash, Change)>,
@@ -172,7 +172,7 @@ impl Store {
         )
     }
 
-    /// The changes with these hashes and their ancestors, in the order in which they came.
+    /// The changes with these hashes and their ancestors, in the order in which they joined.
     pub fn ancestors(&self, alloc: Global, heads: &[Hash]) -> Result<List<Change>, ClockFault>
         ensures ok { IfOk result (λ list. list ≡ changes (ancestors self.now.closed heads.now)) }
         ensures held { OnOk result (All (λ h. holds self.now.closed h ≡ true) heads.now) }

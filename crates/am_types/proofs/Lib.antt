@@ -7,6 +7,7 @@ pub mod Iterated
 pub mod Ancestry
 pub mod SettleLaws
 pub mod VerdictLaws
+pub mod FirstBad
 pub mod Listings
 pub mod Growth
 pub mod Agreement
@@ -29,10 +30,13 @@ pub mod DistinctOperations
 pub mod SharedAncestors
 pub mod LeastReady
 pub mod ReadsAlike
+pub mod References
+pub mod Following
 pub mod Proved
 pub mod SampleHashes
 pub mod Samples
 pub mod TextSamples
+pub mod TableSamples
 pub mod CounterSamples
 pub mod DeliverySamples
 pub mod NoteSamples

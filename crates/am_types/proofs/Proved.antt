@@ -16,7 +16,10 @@ use Rattle.am_types.proofs.NumberLaws.{unsigned_is_shortest, signed_is_shortest}
 use Rattle.am_types.proofs.SameLaws.{same_change-true, change_itself}
 use Rattle.am_types.proofs.Ancestry.{ancestors_named, ancestors_closed, ancestors_least, Contains-from_filter}
 use Rattle.am_types.proofs.Growth.{among_at, found_among, ancestors_stay}
-use Rattle.am_types.proofs.VerdictLaws.{fits_by, fits_from}
+use Rattle.am_types.proofs.VerdictLaws.{fits_by, fits_from, answers_first}
+use Rattle.am_types.proofs.FirstBad.{finds_first_bad}
+use Rattle.am_types.proofs.References.{stands}
+use Rattle.am_types.proofs.Following.{follow_references}
 use Rattle.am_types.proofs.SettleLaws.{settle_settles, settle_idle, settle_taken}
 use Rattle.am_types.proofs.Listings.{settle_sound}
 use Rattle.am_types.proofs.ReadsAlike as listing
@@ -32,7 +35,7 @@ use Rattle.am_types.proofs.Rules.{keeps_rules}
 use Rattle.am_types.specs.Elements.{elements}
 
 pub orders_are_strict : law.OrdersAreStrict
-orders_are_strict = (record { total = id_total; ties = id_exact }, record { total = hash_total; ties = hash_exact })
+orders_are_strict = record { ids = record { total = id_total; ties = id_exact }; hashes = record { total = hash_total; ties = hash_exact } }
 
 pub sorting_is_free : law.SortingIsFree
 sorting_is_free = (
@@ -50,7 +53,7 @@ sorting_is_free = (
 )
 
 pub numbers_are_shortest : law.NumbersAreShortest
-numbers_are_shortest = (unsigned_is_shortest, signed_is_shortest)
+numbers_are_shortest = record { unsigned = unsigned_is_shortest; signed = signed_is_shortest }
 
 pub same_is_equal : law.SameIsEqual
 same_is_equal a b = (same_change-true a b, λ e. subst (λ c. same_change a c ≡ true) e (change_itself a))
@@ -77,8 +80,20 @@ ancestors_are_least C hs = record {
 pub fits_exactly : law.FitsExactly
 fits_exactly C c = (fits_by C c, fits_from C c)
 
+pub verdicts_are_first : law.VerdictsAreFirst
+verdicts_are_first = answers_first
+
+pub first_bad_is_least : law.FirstBadIsLeast
+first_bad_is_least = finds_first_bad
+
 pub ids_are_distinct : law.IdsAreDistinct
 ids_are_distinct = distinct_ids_valid
+
+pub references_are_there : law.ReferencesAreThere
+references_are_there C v x c t = stands C (grounds_valid C v) x c t x.op.key refl
+
+pub elements_follow_references : law.ElementsFollowReferences
+elements_follow_references = follow_references
 
 pub valid_sets_keep_rules : law.ValidSetsKeepRules
 valid_sets_keep_rules = keeps_rules

@@ -4,8 +4,9 @@
 --     elements A o       the elements of o in order: each insertion in turn directly after its reference, or first
 --     part q A           the operations of A whose ids the test q passes
 --     RespectsReferences q A     with an operation of A, q passes its reference
--- An insertion whose reference isn't there, or whose key is a name, puts nothing in: in a valid set there is none, since
--- the reference of each is known and has a lesser id. So a statement about `put_after` wants "the reference is there".
+-- An insertion whose reference isn't there, or whose key is a name, puts nothing in: in a valid set there is none, as a law
+-- says, since the reference of each is known and has a lesser id. So a statement about `put_after` wants "the reference is
+-- there".
 use Rattle.std.specs.Prelude.{Bool, true, ◌≡◌, ◌&&◌, Contains, ⊤, List, [], ◌∷◌, filter, fold, if◌then◌else◌}
 use Rattle.am_types.specs.Records.{OpId, ObjId, Key, Name, Head, Elem}
 use Rattle.am_types.specs.Same.{same_id, same_object}

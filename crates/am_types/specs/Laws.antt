@@ -1,22 +1,25 @@
 -- Laws over the definitions. Each is the contract of a function of the same name, which does nothing.
-use Rattle.std.specs.Prelude.{ℕ, ℤ, ◌+◌, ◌<◌, ◌^◌, ◌≡◌, ◌≢◌, ◌↔◌, false, List, [], ◌++◌, filter, map, Some, None, All, Contains, IsTrue, IsSorted, IsPermutation, FitsSigned, Bool}
+use Rattle.std.specs.Prelude.{ℕ, ℤ, ◌+◌, ◌<◌, ◌^◌, ◌≡◌, ◌≢◌, ◌↔◌, false, not, List, [], ◌++◌, filter, map, take, slice_get, Some, None, All, Contains, IsTrue, IsSorted, IsPermutation, FitsSigned, Bool, ⊤}
+use Rattle.std.specs.Option.{option_map_or}
 use Rattle.std.specs.Int.{w64}
 use Rattle.std.specs.Cmp.{IsTotalOrder}
 use Rattle.std.specs.declared.cmp.Ordering.{Ordering}
-use Rattle.std.specs.declared.cmp.Ordering.TheVariants.{Equal, Greater}
+use Rattle.std.specs.declared.cmp.Ordering.TheVariants.{Less, Equal, Greater}
 use Rattle.am_leb.specs.Leb.{IsUleb, IsLeb}
 use Rattle.am_types.specs.Bytes.{IsBytes}
-use Rattle.am_types.specs.Records.{OpId, Hash, ObjId, Change, Fits}
+use Rattle.am_types.specs.Records.{OpId, Hash, ObjId, Key, Name, Head, Elem, Change, Limit, Fits, SeqClash, SeqGap, StartLow, BadReference, Full}
 use Rattle.am_types.specs.Order.{id_cmp, hash_cmp, sorted_by}
 use Rattle.am_types.specs.Numbers.{unsigned_of, signed_of}
 use Rattle.am_types.specs.Same.{same_change}
-use Rattle.am_types.specs.Operations.{Operation, all_operations, ascending, DistinctIds, OneOperationPerId}
+use Rattle.am_types.specs.Operations.{Operation, all_operations, ascending, slot, DistinctIds, OneOperationPerId}
 use Rattle.am_types.specs.Members.{Member, changes, holds, holds_deps, heads, IsClosed, DistinctHashes}
 use Rattle.am_types.specs.Ancestors.{ancestors, IsLeastPart}
-use Rattle.am_types.specs.Verdicts.{verdict, limit_passed, NoReasonApplies}
+use Rattle.am_types.specs.References.{has_good_references, first_bad}
+use Rattle.am_types.specs.Verdicts.{verdict, seq_clash, seq_gap, start_low, bad_reference, full, limit_passed, NoReasonApplies}
 use Rattle.am_types.specs.ValidSets.{Valid, JoinInTurn}
 use Rattle.am_types.specs.Deliver.{Sets, settle, IsSettled, TakesOne, MayCome, Waits}
-use Rattle.am_types.specs.Elements.{elements, part, RespectsReferences}
+use Rattle.am_types.specs.Elements.{elements, inserts_into, insertions, part, RespectsReferences}
+use Rattle.am_types.specs.Places.{slot_cmp}
 use Rattle.am_types.specs.Replay.{replay}
 use Rattle.am_types.specs.Rows.{rows}
 use Rattle.am_types.specs.Clocks.{covers}
@@ -31,8 +34,9 @@ pub record IsStrict {X : Type 0} (cmp : X → X → Ordering) : Type 0 where
   pub ties : (a b : X) → cmp a b ≡ Equal → a ≡ b
 
 -- ids are totally ordered, and so are hashes
-abbrev pub OrdersAreStrict : Type 0
-OrdersAreStrict = IsStrict id_cmp × IsStrict hash_cmp
+pub record OrdersAreStrict : Type 0 where
+  pub ids : IsStrict id_cmp
+  pub hashes : IsStrict hash_cmp
 
 -- sorting by cmp gives the same elements, in order, and doesn't depend on how they were listed
 pub record SortsOnce {X : Type 0} (cmp : X → X → Ordering) : Type 0 where
@@ -40,7 +44,7 @@ pub record SortsOnce {X : Type 0} (cmp : X → X → Ordering) : Type 0 where
   pub in_order : (xs : List X) → IsSorted cmp (sorted_by cmp xs)
   pub once : (xs ys : List X) → IsPermutation xs ys → sorted_by cmp ys ≡ sorted_by cmp xs
 
--- sorting ids, hashes, and operations of which those with one id are one
+-- sorting ids and hashes does so; sorting operations of which those with one id are one doesn't depend on their listing
 abbrev pub SortingIsFree : Type 0
 SortingIsFree =
     SortsOnce id_cmp × SortsOnce hash_cmp
@@ -49,10 +53,9 @@ SortingIsFree =
 -- ---- values and changes
 
 -- the bytes spell the number, and no shorter list does
-abbrev pub NumbersAreShortest : Type 0
-NumbersAreShortest =
-    ((bytes : List ℕ) (n : ℕ) → IsBytes bytes → (unsigned_of bytes ≡ Some n) ↔ ((n < 2 ^ 64) × IsUleb bytes n))
-    × ((bytes : List ℕ) (n : ℤ) → IsBytes bytes → (signed_of bytes ≡ Some n) ↔ (FitsSigned w64 n × IsLeb bytes n))
+pub record NumbersAreShortest : Type 0 where
+  pub unsigned : (bytes : List ℕ) (n : ℕ) → IsBytes bytes → (unsigned_of bytes ≡ Some n) ↔ ((n < 2 ^ 64) × IsUleb bytes n)
+  pub signed : (bytes : List ℕ) (n : ℤ) → IsBytes bytes → (signed_of bytes ≡ Some n) ↔ (FitsSigned w64 n × IsLeb bytes n)
 
 -- comparing two changes part by part is equality
 abbrev pub SameIsEqual : Type 0
@@ -72,6 +75,43 @@ AncestorsKeepOrder = (C : List Member) (hs : List Hash) → ancestors C hs ≡ f
 abbrev pub FitsExactly : Type 0
 FitsExactly = (C : List Member) (c : Change) → (verdict C c ≡ Fits) ↔ NoReasonApplies C c
 
+-- where A are the ancestors of c: each reason is answered, with what it tells, exactly where it applies and none before
+-- it does
+pub record AnswersFirst (C A : List Member) (c : Change) : Type 0 where
+  pub clash : (h : Hash) → (verdict C c ≡ SeqClash h) ↔ (seq_clash C c ≡ Some (SeqClash h))
+  pub gap : (verdict C c ≡ SeqGap) ↔ ((seq_clash C c ≡ None) × (seq_gap A c ≡ Some SeqGap))
+  pub low : (h : Hash)
+      → (verdict C c ≡ StartLow h)
+      ↔ ((seq_clash C c ≡ None) × (seq_gap A c ≡ None) × (start_low A c ≡ Some (StartLow h)))
+  pub references : (i : ℕ)
+      → (verdict C c ≡ BadReference i)
+      ↔ ((seq_clash C c ≡ None) × (seq_gap A c ≡ None) × (start_low A c ≡ None) × (bad_reference A c ≡ Some (BadReference i)))
+  pub limits : (limit : Limit)
+      → (verdict C c ≡ Full limit)
+      ↔ ((seq_clash C c ≡ None) × (seq_gap A c ≡ None) × (start_low A c ≡ None) × (bad_reference A c ≡ None) × (full C c ≡ Some (Full limit)))
+  pub fits : (verdict C c ≡ Fits) ↔ NoReasonApplies C c
+
+-- a verdict is the first reason that applies, or Fits where none does
+abbrev pub VerdictsAreFirst : Type 0
+VerdictsAreFirst = (C : List Member) (c : Change) → AnswersFirst C (ancestors C c.deps) c
+
+-- at the place i of xs stands an operation whose references are bad, where those before it in xs are known too
+abbrev pub bad_at : List Operation → List Operation → ℕ → Bool
+bad_at known xs i = option_map_or (λ x. not (has_good_references (known ++ take i xs) x)) (slice_get xs i) false
+
+-- the operation at the place i is bad, and none before it is
+pub record IsLeastBad (known xs : List Operation) (i : ℕ) : Type 0 where
+  pub bad : IsTrue (bad_at known xs i)
+  pub before : (j : ℕ) → j < i → bad_at known xs j ≡ false
+
+-- the first bad operation is told by the least place at which one is bad, and None exactly where none is
+pub record FindsFirstBad (known xs : List Operation) : Type 0 where
+  pub some : (i : ℕ) → (first_bad known xs ≡ Some i) ↔ IsLeastBad known xs i
+  pub none : (first_bad known xs ≡ None) ↔ ((i : ℕ) → bad_at known xs i ≡ false)
+
+abbrev pub FirstBadIsLeast : Type 0
+FirstBadIsLeast = (known xs : List Operation) → FindsFirstBad known xs
+
 -- what the members of a valid set are together
 pub record KeepsRules (C : List Member) : Type 0 where
   pub closed : IsClosed C
@@ -86,6 +126,34 @@ ValidSetsKeepRules = (C : List Member) → Valid C → KeepsRules C
 -- in a valid set no two operations have one id
 abbrev pub IdsAreDistinct : Type 0
 IdsAreDistinct = (C : List Member) → Valid C → DistinctIds (all_operations (changes C))
+
+-- r is the id of an insertion among A into the object of x, and lies below that of x
+pub record IsReference (A : List Operation) (x : Operation) (r : OpId) : Type 0 where
+  pub insertion : Operation
+  pub is_among : Contains A insertion
+  pub has_id : insertion.id ≡ r
+  pub inserts : IsTrue (inserts_into x.op.obj insertion)
+  pub lower : id_cmp r x.id ≡ Less
+
+-- the reference of an insertion x with such a key is there: the front, or such an element
+abbrev pub ReferenceIsThere : List Operation → Operation → Key → Type 0
+ReferenceIsThere A x Head = ⊤
+ReferenceIsThere A x (Elem r) = IsReference A x r
+ReferenceIsThere A x (Name n) = ⊥
+
+-- in a valid set each insertion stands at the front of its object, or behind an earlier insertion into it
+abbrev pub ReferencesAreThere : Type 0
+ReferencesAreThere = (C : List Member) → Valid C → (x : Operation) → Contains (all_operations (changes C)) x → IsTrue x.op.insert
+    → ReferenceIsThere (all_operations (changes C)) x x.op.key
+
+-- the elements of o are the ids of the insertions into it, and each stands behind what its insertion names
+pub record FollowReferences (A : List Operation) (o : ObjId) : Type 0 where
+  pub ids : IsPermutation (map (λ x. x.id) (insertions A o)) (elements A o)
+  pub behind : (x : Operation) → Contains A x → IsTrue (inserts_into o x) → slot_cmp (elements A o) x.op.key (slot x) ≡ Less
+
+-- in a valid set each insertion gives one element, behind its reference
+abbrev pub ElementsFollowReferences : Type 0
+ElementsFollowReferences = (C : List Member) → Valid C → (o : ObjId) → FollowReferences (all_operations (changes C)) o
 
 -- ---- settling
 

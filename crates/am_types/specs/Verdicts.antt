@@ -5,7 +5,7 @@
 -- choices of amstore's profile. The reasons, each with its answer where it applies; A are the ancestors of c in C:
 --     seq_clash C c         a member of C has the actor and the seq of c
 --     seq_gap A c           c isn't its actor's first, and the one before it isn't among its ancestors
---     start_low A c         a dependency has an operation whose counter isn't below the start of c
+--     start_low A c         a dependency ends at the start of c or above, as `max` has it
 --     bad_reference A c     an operation of c names what isn't there
 --     full C c              with c, the set would pass a limit
 use Rattle.std.specs.Prelude.{ℕ, ◌≡◌, ◌-◌, ◌^◌, Bool, not, ◌&&◌, ◌==◌, nat_le, nat_lt, List, [], ◌∷◌, length, find, sum_by, Option, None, option_map, unwrap_or}

@@ -1,5 +1,5 @@
 //! Laws over the definitions. Each function does nothing; its contract is the law.
-ghost use Rattle.am_types.specs.Laws.{OrdersAreStrict, SortingIsFree, NumbersAreShortest, SameIsEqual, AncestorsAreLeast, AncestorsKeepOrder, FitsExactly, ValidSetsKeepRules, IdsAreDistinct, SettlesInTurn, SettlingKeepsOrder, ListingIsFree, DepthCounts, ElementsOfPart, AncestorsAreRead, ViewsStay, AncestorsStay};
+ghost use Rattle.am_types.specs.Laws.{OrdersAreStrict, SortingIsFree, NumbersAreShortest, SameIsEqual, AncestorsAreLeast, AncestorsKeepOrder, FitsExactly, VerdictsAreFirst, FirstBadIsLeast, ValidSetsKeepRules, IdsAreDistinct, ReferencesAreThere, ElementsFollowReferences, SettlesInTurn, SettlingKeepsOrder, ListingIsFree, DepthCounts, ElementsOfPart, AncestorsAreRead, ViewsStay, AncestorsStay};
 
 /// Ids are totally ordered, hashes too, and only equal ones tie.
 #[tactic(auto, using(crate::proofs::Proved::orders_are_strict))]
@@ -7,7 +7,8 @@ pub fn orders_are_strict()
     ensures { OrdersAreStrict }
 {}
 
-/// Sorting ids, hashes or operations gives the same elements in order, however they were listed.
+/// Sorting ids or hashes keeps the elements, puts them in order, and gives the same however they were listed. Sorting
+/// operations of which those with one id are one gives the same however they were listed.
 #[tactic(auto, using(crate::proofs::Proved::sorting_is_free))]
 pub fn sorting_is_free()
     ensures { SortingIsFree }
@@ -42,6 +43,18 @@ pub fn fits_exactly()
     ensures { FitsExactly }
 {}
 
+/// Each reason against a change is the verdict, with what it tells, exactly where it applies and none before it does;
+/// `Fits` exactly where none does.
+pub fn verdicts_are_first()
+    ensures { VerdictsAreFirst }
+{}
+
+/// The first operation with bad references is the one at the least place where there is such, and there is none exactly
+/// where no operation has bad references. Those before an operation are known to it.
+pub fn first_bad_is_least()
+    ensures { FirstBadIsLeast }
+{}
+
 /// A valid set is closed, no two of its members have one hash, each of them may come, and it is within the limits.
 pub fn valid_sets_keep_rules()
     ensures { ValidSetsKeepRules }
@@ -50,6 +63,16 @@ pub fn valid_sets_keep_rules()
 /// In a valid set no two operations have one id.
 pub fn ids_are_distinct()
     ensures { IdsAreDistinct }
+{}
+
+/// In a valid set each insertion stands at the front of its object, or behind an insertion of lesser id into it.
+pub fn references_are_there()
+    ensures { ReferencesAreThere }
+{}
+
+/// In a valid set each insertion into an object gives one element of it, which stands behind its reference.
+pub fn elements_follow_references()
+    ensures { ElementsFollowReferences }
 {}
 
 /// Settling admits the ready changes one by one, the one of least hash first, ends, and leaves none ready.

@@ -27,9 +27,10 @@ pub use ids::{Key, ObjId, OpId};
 pub use known::{hash_known, hashes_known, slice_known, str_known};
 pub use laws::{
     ancestors_are_least, ancestors_are_read, ancestors_keep_order, ancestors_stay, depth_counts,
-    elements_of_part, fits_exactly, ids_are_distinct, listing_is_free, numbers_are_shortest,
-    orders_are_strict, same_is_equal, settles_in_turn, settling_keeps_order, sorting_is_free,
-    valid_sets_keep_rules, views_stay,
+    elements_follow_references, elements_of_part, first_bad_is_least, fits_exactly,
+    ids_are_distinct, listing_is_free, numbers_are_shortest, orders_are_strict,
+    references_are_there, same_is_equal, settles_in_turn, settling_keeps_order, sorting_is_free,
+    valid_sets_keep_rules, verdicts_are_first, views_stay,
 };
 pub use list::List;
 pub use refs::{EntryRef, IdRef, KeyRef, ObjRef, ValueRef, compare_ids};

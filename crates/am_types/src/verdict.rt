@@ -23,9 +23,10 @@ pub enum Verdict {
     SeqClash(Hash),
     /// The actor's change before it is not among its ancestors.
     SeqGap,
-    /// This dependency, the least such, has an operation whose counter is not below the change's start.
+    /// This dependency, the least such, ends at the change's start or above. A change ends at its start plus the number of
+    /// its operations less 1, also where it has none.
     StartLow(Hash),
-    /// The operation at this place, the first such, names what is not there.
+    /// The operation at this place, from 0, the first such, names what is not there.
     BadReference(u64),
     /// This limit, the first such, would be passed.
     Full(Limit),
@@ -40,7 +41,7 @@ pub enum Why {
     SeqClash(Hash),
     /// The actor's change before it is not among its ancestors.
     SeqGap,
-    /// This dependency has an operation whose counter is not below the change's start.
+    /// This dependency, the least such, ends at the change's start or above.
     StartLow(Hash),
     /// The operation at this place, from 0, names what is not there.
     BadReference(u64),

@@ -1,0 +1,5 @@
+use Rattle.am_types.proofs.Proved as proved
+use Rattle.am_types.proofs.laws.references_are_there.Goals as goal
+
+pub returns : goal.returns
+returns c = proved.references_are_there

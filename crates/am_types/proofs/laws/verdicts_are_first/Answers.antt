@@ -1,0 +1,5 @@
+use Rattle.am_types.proofs.Proved as proved
+use Rattle.am_types.proofs.laws.verdicts_are_first.Goals as goal
+
+pub returns : goal.returns
+returns c = proved.verdicts_are_first
