@@ -5,3 +5,4 @@ pub mod Answering
 pub mod SignedAnswering
 pub mod Completion
 pub mod OneByte
+pub mod Ending
