@@ -6,3 +6,4 @@ pub mod SignedAnswering
 pub mod Completion
 pub mod OneByte
 pub mod Ending
+pub mod NineBytes

@@ -7,11 +7,11 @@ use Rattle.am_leb.specs.Leb.{IsSpelling, unsigned_value, signed_value, ends_nega
 use Rattle.am_leb.specs.Reading.{digit, magnitude, from_magnitude}
 use Rattle.am_leb.proofs.Laws.{IsSpelling-cons}
 
-magnitude-false : (bytes : List ℕ) → magnitude false bytes ≡ unsigned_value bytes
+pub magnitude-false : (bytes : List ℕ) → magnitude false bytes ≡ unsigned_value bytes
 magnitude-false [] = refl
 magnitude-false (b ∷ bytes) = ap (λ n. b % 128 + 128 * n) (magnitude-false bytes)
 
-magnitude-true : (bytes : List ℕ) → magnitude true bytes + unsigned_value bytes + 1 ≡ 128 ^ length bytes
+pub magnitude-true : (bytes : List ℕ) → magnitude true bytes + unsigned_value bytes + 1 ≡ 128 ^ length bytes
 magnitude-true [] = refl
 magnitude-true (b ∷ bytes) = rw pow-succ' (omega (arith, magnitude-true bytes))
 
