@@ -1,7 +1,6 @@
 //! Where a spelling ends.
-ghost use Rattle.std.specs.Prelude.{◌≡◌, ◌<◌, ◌≤◌, ◌^◌, ◌∷◌, take, drop, Some, IfSome};
-ghost use Rattle.am_leb.specs.Leb.{unsigned_value};
-ghost use Rattle.am_leb.specs.Reading.{end_within};
+ghost use Rattle.std.specs.Prelude.{◌≡◌, ◌<◌, ◌∷◌, drop, IfSome};
+ghost use Rattle.am_leb.specs.Reading.{end_within, Spelled};
 
 // The length of the spelling that begins the bytes, if it ends within ten.
 pub fn end_of(bytes: &[u8]) -> Option<usize>
@@ -36,11 +35,35 @@ pub struct Spelling {
     pub len: usize,
 }
 
+// The spelling that begins the bytes, if it has two.
+#[inline(always)]
+fn two_bytes_at(bytes: &[u8]) -> Option<Spelling>
+    ensures { IfSome result (λ s. Spelled bytes.now s.len s.value s.bound) }
+{
+    if bytes.len() < 2 {
+        return None;
+    }
+    let first = bytes[0];
+    let second = bytes[1];
+    if first < 128 || second >= 128 {
+        return None;
+    }
+    Some(Spelling {
+        value: u64::from(first) - 128 + 128 * u64::from(second),
+        bound: 16_384,
+        len: 2,
+    })
+}
+
 // The spelling that begins the bytes, if it ends within nine.
 #[inline(always)]
 pub fn spelling_at(bytes: &[u8]) -> Option<Spelling>
-    ensures { IfSome result (λ s. (s.len ≤ 9) × (end_within 10 bytes.now ≡ Some s.len) × (s.value ≡ unsigned_value (take s.len bytes.now)) × (s.bound ≡ 128 ^ s.len)) }
+    ensures { IfSome result (λ s. Spelled bytes.now s.len s.value s.bound) }
 {
+    // Most have two bytes: the callers have read those of one.
+    if let Some(two) = two_bytes_at(bytes) {
+        return Some(two);
+    }
     let most = bytes.len().min(9);
     let mut value = 0u64;
     let mut bound = 1u64;
