@@ -56,7 +56,7 @@ nonempty : (bytes other : List ℕ) → length bytes ≡ 1 → IsSpelling other 
 nonempty bytes [] one h = absurd h
 nonempty bytes (x ∷ other) one h = omega arith
 
-not_shorter : (len short m n : ℕ) → len ≡ suc m → 128 ^ m ≤ n → n < 128 ^ short → len ≤ short
+pub not_shorter : (len short m n : ℕ) → len ≡ suc m → 128 ^ m ≤ n → n < 128 ^ short → len ≤ short
 not_shorter len short m n e p q = ⊎_elim (λ lt. omega arith) (λ le. absurd (omega (arith, pow-le-pow_right {n = 128} (omega arith) {i = short} {j = m} le))) (cases_lt m short)
 
 pub IsUleb-from_tight : {bytes : List ℕ} {n : ℕ} → Spells bytes n → IsUleb bytes n

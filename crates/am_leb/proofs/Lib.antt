@@ -5,3 +5,5 @@ pub mod Answering
 pub mod SignedAnswering
 pub mod Completion
 pub mod OneByte
+pub mod Ending
+pub mod NineBytes

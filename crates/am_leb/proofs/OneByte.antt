@@ -1,7 +1,6 @@
 -- Numbers of one byte.
-use Rattle.std.proofs.Common.{◌≡◌, ℕ, ◌-◌, ◌<◌, ◌≤◌, Bool, true, false, nat_lt, List, [], ◌∷◌, ◌++◌, length, drop, get_or, Ok, pos, negsuc, ℤ, cond, refl, sym, ap, ◌∙◌, subst, arith}
-use Rattle.std.proofs.lemmas.Bool.Decides.{nat_tests}
-use Rattle.am_leb.specs.Leb.{uleb, leb, seven_bits}
+use Rattle.std.proofs.Common.{◌≡◌, ℕ, ◌-◌, ◌<◌, Bool, true, false, List, [], ◌∷◌, ◌++◌, length, drop, get_or, Ok, pos, negsuc, cond, refl, sym, ap, ◌∙◌, arith}
+use Rattle.am_leb.specs.Leb.{seven_bits}
 use Rattle.am_leb.specs.Reading.{first_unsigned, first_signed, from_magnitude, low_value}
 use Rattle.am_leb.proofs.Laws.{uleb-one, length_uleb-one}
 use Rattle.am_leb.proofs.SignedLaws.{leb-one, length_leb-one}

@@ -7,11 +7,11 @@ use Rattle.am_leb.specs.Leb.{IsSpelling, unsigned_value, signed_value, ends_nega
 use Rattle.am_leb.specs.Reading.{digit, magnitude, from_magnitude}
 use Rattle.am_leb.proofs.Laws.{IsSpelling-cons}
 
-magnitude-false : (bytes : List ℕ) → magnitude false bytes ≡ unsigned_value bytes
+pub magnitude-false : (bytes : List ℕ) → magnitude false bytes ≡ unsigned_value bytes
 magnitude-false [] = refl
 magnitude-false (b ∷ bytes) = ap (λ n. b % 128 + 128 * n) (magnitude-false bytes)
 
-magnitude-true : (bytes : List ℕ) → magnitude true bytes + unsigned_value bytes + 1 ≡ 128 ^ length bytes
+pub magnitude-true : (bytes : List ℕ) → magnitude true bytes + unsigned_value bytes + 1 ≡ 128 ^ length bytes
 magnitude-true [] = refl
 magnitude-true (b ∷ bytes) = rw pow-succ' (omega (arith, magnitude-true bytes))
 
@@ -33,7 +33,7 @@ last_digit-lt true b h e = let x : 64 ≤ b = grind (arith, nat_tests) in omega 
 last_digit-lt false b h e = let x : b < 64 = grind (arith, nat_tests) in omega arith
 
 -- what m + 1 bytes can hold
-magnitude-lt : (negative : Bool) (bytes : List ℕ) (m : ℕ) → IsSpelling bytes → ends_negative bytes ≡ negative → length bytes ≡ suc m → magnitude negative bytes < 64 * 128 ^ m
+pub magnitude-lt : (negative : Bool) (bytes : List ℕ) (m : ℕ) → IsSpelling bytes → ends_negative bytes ≡ negative → length bytes ≡ suc m → magnitude negative bytes < 64 * 128 ^ m
 magnitude-lt negative [] m s e l = absurd s
 magnitude-lt negative (b ∷ []) m s e l = let z : m ≡ 0 = omega arith in rw z (omega (arith, last_digit-lt negative b s e))
 magnitude-lt negative (b ∷ c ∷ bytes) zero s e l = absurd (omega arith)
@@ -116,9 +116,9 @@ nonempty : (len : ℕ) (other : List ℕ) → len ≡ 1 → IsSpelling other →
 nonempty len [] one h = absurd h
 nonempty len (x ∷ other) one h = omega arith
 
-not_shorter : (negative : Bool) (len m n : ℕ) (other : List ℕ) → IsSpelling other → ends_negative other ≡ negative → magnitude negative other ≡ n → len ≡ suc (suc m) → 64 * 128 ^ m ≤ n → len ≤ length other
-not_shorter negative len m n [] s e v l p = absurd s
-not_shorter negative len m n (b ∷ other) s e v l p =
+pub not_shorter_signed : (negative : Bool) (len m n : ℕ) (other : List ℕ) → IsSpelling other → ends_negative other ≡ negative → magnitude negative other ≡ n → len ≡ suc (suc m) → 64 * 128 ^ m ≤ n → len ≤ length other
+not_shorter_signed negative len m n [] s e v l p = absurd s
+not_shorter_signed negative len m n (b ∷ other) s e v l p =
     let lt = magnitude-lt negative (b ∷ other) (length other) s e refl in
     ⊎_elim (λ g. omega arith) (λ g. absurd (omega (arith, pow-le-pow_right {n = 128} (omega arith) {i = length other} {j = m} g))) (cases_lt m (length other))
 
@@ -128,7 +128,7 @@ IsLeb-from_tight negative bytes n s = record {
   value_is = Spells-signed_value s;
   shortest = λ other h e. let w = of_value negative other n e in ⊎_elim
       (λ one. nonempty (length bytes) other one h)
-      (λ t. not_shorter negative (length bytes) t.0 n other h w.0 w.1 t.1 t.2)
+      (λ t. not_shorter_signed negative (length bytes) t.0 n other h w.0 w.1 t.1 t.2)
       s.tight;
 }
 

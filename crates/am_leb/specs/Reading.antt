@@ -1,4 +1,4 @@
-use Rattle.std.specs.Prelude.{ℕ, ◌+◌, ◌*◌, ◌^◌, ◌%◌, ◌-◌, List, [], ◌∷◌, length, take, nat_lt, true, false, suc, zero, Option, Some, None, Result, Ok, Err, if◌then◌else◌, Bool, ℤ, pos, negsuc}
+use Rattle.std.specs.Prelude.{◌≡◌, ℕ, ◌+◌, ◌*◌, ◌^◌, ◌%◌, ◌-◌, ◌≤◌, List, [], ◌∷◌, length, take, nat_lt, true, false, suc, zero, Option, Some, None, Result, Ok, Err, if◌then◌else◌, Bool, ℤ, pos, negsuc}
 use Rattle.am_leb.specs.declared.fault.LebFault.{LebFault}
 use Rattle.am_leb.specs.declared.fault.LebFault.TheVariants.{Short, Long, Large}
 use Rattle.am_leb.specs.Leb.{unsigned_value, uleb, seven_bits, ends_negative, leb}
@@ -12,6 +12,10 @@ abbrev pub end_within : ℕ → List ℕ → Option ℕ
 end_within zero bytes = None
 end_within (suc k) [] = None
 end_within (suc k) (b ∷ bytes) = if nat_lt b 128 then Some 1 else one_more (end_within k bytes)
+
+-- A spelling of at most nine bytes begins the bytes: how many it has, what it spells as unsigned, and the bound that so many bytes stay below.
+abbrev pub Spelled : List ℕ → ℕ → ℕ → ℕ → Type 0
+Spelled bytes len value bound = (len ≤ 9) × (end_within 10 bytes ≡ Some len) × (value ≡ unsigned_value (take len bytes)) × (bound ≡ 128 ^ len)
 
 abbrev pub judged : ℕ → ℕ → Result (ℕ × ℕ) LebFault
 judged n len = if nat_lt n (2 ^ 64) then (if nat_lt (length (uleb n)) len then Err Long else Ok (n, len)) else Err Large

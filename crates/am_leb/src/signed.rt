@@ -5,7 +5,7 @@ ghost use Rattle.am_leb.specs.Leb.{leb, signed_value, ends_negative, seven_bits,
 ghost use Rattle.am_leb.specs.Reading.{first_signed, digit, magnitude, from_magnitude, low_value};
 
 use crate::fault::LebFault;
-use crate::spelling::{end_of, low_byte};
+use crate::spelling::{end_of, low_byte, spelling_at};
 use std::alloc::AllocError;
 
 fn digit_of(byte: u8, negative: bool) -> u8
@@ -73,6 +73,26 @@ fn signed_number_at(bytes: &[u8]) -> Result<(i64, usize), LebFault>
     }
 }
 
+// The same, with numbers that end within nine bytes read in one pass.
+fn longer_number(bytes: &[u8]) -> Result<(i64, usize), LebFault>
+    ensures { result ≡ first_signed bytes.now }
+{
+    if let Some(spelling) = spelling_at(bytes) {
+        let negative = is_negative(&bytes[..spelling.len]);
+        let magnitude = if negative {
+            spelling.bound - 1 - spelling.value
+        } else {
+            spelling.value
+        };
+        // Else a shorter list spells it.
+        if magnitude >= spelling.bound / 256 {
+            let value = magnitude as i64;
+            return Ok((if negative { -1 - value } else { value }, spelling.len));
+        }
+    }
+    signed_number_at(bytes)
+}
+
 // The number of one byte.
 #[inline(always)]
 fn low_number(low: u8) -> i64
@@ -93,7 +113,7 @@ fn first_number(bytes: &[u8]) -> Result<(i64, usize), LebFault>
 {
     match low_byte(bytes) {
         Some(low) => Ok((low_number(low), 1)),
-        None => signed_number_at(bytes),
+        None => longer_number(bytes),
     }
 }
 

@@ -4,14 +4,27 @@ use std::test::Fail;
 
 #[test]
 fn spells_unsigned_numbers(rt: HostRuntime) -> Result<(), Fail> {
-    let table: [(u64, &[u8]); 8] = [
+    let table: [(u64, &[u8]); 14] = [
         (0, &[0x00]),
         (2, &[0x02]),
         (127, &[0x7f]),
         (128, &[0x80, 0x01]),
         (129, &[0x81, 0x01]),
         (12_857, &[0xb9, 0x64]),
+        (16_383, &[0xff, 0x7f]),
+        (16_384, &[0x80, 0x80, 0x01]),
         (624_485, &[0xe5, 0x8e, 0x26]),
+        (2_097_151, &[0xff, 0xff, 0x7f]),
+        (2_097_152, &[0x80, 0x80, 0x80, 0x01]),
+        // 2^63 - 1 and 2^63: the last number of nine bytes, and the first of ten
+        (
+            0x7fff_ffff_ffff_ffff,
+            &[0xff, 0xff, 0xff, 0xff, 0xff, 0xff, 0xff, 0xff, 0x7f],
+        ),
+        (
+            0x8000_0000_0000_0000,
+            &[0x80, 0x80, 0x80, 0x80, 0x80, 0x80, 0x80, 0x80, 0x80, 0x01],
+        ),
         (
             u64::MAX,
             &[0xff, 0xff, 0xff, 0xff, 0xff, 0xff, 0xff, 0xff, 0xff, 0x01],
@@ -29,16 +42,41 @@ fn spells_unsigned_numbers(rt: HostRuntime) -> Result<(), Fail> {
 
 #[test]
 fn spells_signed_numbers(rt: HostRuntime) -> Result<(), Fail> {
-    let table: [(i64, &[u8]); 11] = [
+    let table: [(i64, &[u8]); 23] = [
         (2, &[0x02]),
         (-2, &[0x7e]),
+        (63, &[0x3f]),
+        (64, &[0xc0, 0x00]),
+        (-64, &[0x40]),
+        (-65, &[0xbf, 0x7f]),
         (127, &[0xff, 0x00]),
         (-127, &[0x81, 0x7f]),
         (128, &[0x80, 0x01]),
         (-128, &[0x80, 0x7f]),
         (129, &[0x81, 0x01]),
         (-129, &[0xff, 0x7e]),
+        (8_191, &[0xff, 0x3f]),
+        (8_192, &[0x80, 0xc0, 0x00]),
+        (-8_192, &[0x80, 0x40]),
+        (-8_193, &[0xff, 0xbf, 0x7f]),
         (-123_456, &[0xc0, 0xbb, 0x78]),
+        // 2^62 - 1, 2^62, -2^62 and -2^62 - 1: the last numbers of nine bytes, and the first of ten
+        (
+            0x3fff_ffff_ffff_ffff,
+            &[0xff, 0xff, 0xff, 0xff, 0xff, 0xff, 0xff, 0xff, 0x3f],
+        ),
+        (
+            0x4000_0000_0000_0000,
+            &[0x80, 0x80, 0x80, 0x80, 0x80, 0x80, 0x80, 0x80, 0xc0, 0x00],
+        ),
+        (
+            -0x4000_0000_0000_0000,
+            &[0x80, 0x80, 0x80, 0x80, 0x80, 0x80, 0x80, 0x80, 0x40],
+        ),
+        (
+            -0x4000_0000_0000_0001,
+            &[0xff, 0xff, 0xff, 0xff, 0xff, 0xff, 0xff, 0xff, 0xbf, 0x7f],
+        ),
         (
             i64::MAX,
             &[0xff, 0xff, 0xff, 0xff, 0xff, 0xff, 0xff, 0xff, 0xff, 0x00],
@@ -56,6 +94,32 @@ fn spells_signed_numbers(rt: HostRuntime) -> Result<(), Fail> {
         assert_eq!(rt; read_i(&out), Ok((number, spelling.len())), "at {number}");
     }
     Ok(())
+}
+
+#[test]
+fn refuses_one_byte_too_many(rt: HostRuntime) {
+    // 0, 63, 127 and 16383 as unsigned
+    let unsigned: [&[u8]; 4] = [
+        &[0x80, 0x00],
+        &[0xbf, 0x00],
+        &[0xff, 0x00],
+        &[0xff, 0xff, 0x00],
+    ];
+    for bytes in unsigned {
+        assert_eq!(rt; read_u(bytes), Err(LebFault::Long));
+    }
+    // 0, 63, -1, -64, 8191 and -8192
+    let signed: [&[u8]; 6] = [
+        &[0x80, 0x00],
+        &[0xbf, 0x00],
+        &[0xff, 0x7f],
+        &[0xc0, 0x7f],
+        &[0xff, 0xbf, 0x00],
+        &[0x80, 0xc0, 0x7f],
+    ];
+    for bytes in signed {
+        assert_eq!(rt; read_i(bytes), Err(LebFault::Long));
+    }
 }
 
 #[test]

@@ -4,7 +4,7 @@ ghost use Rattle.am_leb.specs.Leb.{uleb, unsigned_value, IsHigh, IsUleb, BeginsW
 ghost use Rattle.am_leb.specs.Reading.{first_unsigned};
 
 use crate::fault::LebFault;
-use crate::spelling::{end_of, low_byte};
+use crate::spelling::{end_of, low_byte, spelling_at};
 use std::alloc::AllocError;
 
 fn unsigned_of(spelling: &[u8]) -> u128
@@ -53,6 +53,19 @@ fn number_at(bytes: &[u8]) -> Result<(u64, usize), LebFault>
     }
 }
 
+// The same, with numbers that end within nine bytes read in one pass.
+fn longer_number(bytes: &[u8]) -> Result<(u64, usize), LebFault>
+    ensures { result ≡ first_unsigned bytes.now }
+{
+    if let Some(spelling) = spelling_at(bytes) {
+        // Else a shorter list spells it.
+        if spelling.value >= spelling.bound / 128 {
+            return Ok((spelling.value, spelling.len));
+        }
+    }
+    number_at(bytes)
+}
+
 // The same, with numbers of one byte read at once.
 #[inline(always)]
 fn first_number(bytes: &[u8]) -> Result<(u64, usize), LebFault>
@@ -60,7 +73,7 @@ fn first_number(bytes: &[u8]) -> Result<(u64, usize), LebFault>
 {
     match low_byte(bytes) {
         Some(low) => Ok((u64::from(low), 1)),
-        None => number_at(bytes),
+        None => longer_number(bytes),
     }
 }
 

@@ -1,8 +1,7 @@
-use mir.Val.{to_z, of_z}
-use Rattle.std.proofs.Common.{w64, ℕ, ◌<◌, ◌^◌, ◌≡◌, ◌-ℤ◌, pos, negsuc, arith, ap, sym, ◌∙◌}
-use Rattle.std.proofs.lemmas.Int.{ints}
+use Rattle.std.proofs.Common.{arith, ap, sym, ◌∙◌}
 use Rattle.am_leb.specs.Reading.{from_magnitude}
 use Rattle.am_leb.proofs.Answering.{first_signed-short, first_signed-cut, first_signed-large, first_signed-long, first_signed-found}
+use Rattle.am_leb.proofs.NineBytes.{below_zero, above_zero}
 use Rattle.am_leb.proofs.signed.signed_number_at.Goals as goal
 
 pub returns-then-magnitude : goal.returns-then-magnitude
@@ -16,12 +15,6 @@ returns-then-bytes-lt10 c = first_signed-short _ c.in-None.ensures (omega arith)
 
 pub returns-else-bytes-lt10 : goal.returns-else-bytes-lt10
 returns-else-bytes-lt10 c = first_signed-cut _ c.in-None.ensures (omega arith)
-
-below_zero : (n : ℕ) → n < 2 ^ 63 → to_z w64 (of_z w64 (negsuc 0 -ℤ to_z w64 n)) ≡ negsuc n
-below_zero n h = omega (arith, ints)
-
-above_zero : (n : ℕ) → n < 2 ^ 63 → to_z w64 n ≡ pos n
-above_zero n h = omega (arith, ints)
 
 pub returns-then-negative : goal.returns-then-negative
 returns-then-negative c = first_signed-found _ _ _ _ _ c.in-Some.ensures c.is_negative-negative.ensures c.magnitude_of-magnitude.ensures (omega arith) (omega arith)
