@@ -1,4 +1,4 @@
--- In a valid set the reference of each insertion is there.
+-- In a valid set the element that an operation names is there, and so the reference of each insertion.
 use Rattle.std.proofs.Common.{◌≡◌, ◌<◌, ◌&&◌, List, [], ◌∷◌, Bool, true, refl, sym, ap, ◌∙◌, subst, inl, inr, Contains, arith}
 use Rattle.std.specs.Cmp.{nat_cmp_is}
 use Rattle.std.specs.Ordering.{nat_cmp}
@@ -34,7 +34,7 @@ less_counter : (i j : OpId) → i.counter < j.counter → id_cmp i j ≡ Less
 less_counter i j l = let e : Less ≡ nat_cmp i.counter j.counter = nat_cmp_is i.counter j.counter Less l in simp (← e) refl
 
 module _ (C : List Member) (g : Grounds C) (x : Operation) (c : Contains (all_operations (changes C)) x) where
-  fine_op : FineOp x.op
+  pub fine_op : FineOp x.op
   fine_op =
       let o = operation_of C x c in
       let m = o.0 in
@@ -42,7 +42,7 @@ module _ (C : List Member) (g : Grounds C) (x : Operation) (c : Contains (all_op
       let at = numbered_at m.change.start m.change.actor m.change.ops x place.0 place.1 place.2 in
       subst FineOp (sym (ap (λ (z : Operation). z.op) at.1.1)) (All-get_or FineOp m.change.ops at.0 x.op at.1.0 (g.fine m o.1).ops)
 
-  refers : (r : OpId) → x.op.key ≡ Elem r → IsReference (all_operations (changes C)) x r
+  pub refers : (r : OpId) → x.op.key ≡ Elem r → IsReference (all_operations (changes C)) x r
   refers r e =
       let p = placed C g x c in
       let known : element_known p.before.seen x.op.obj (Elem r) ≡ true = ap (element_known p.before.seen x.op.obj) (sym e) ∙ (and_parts _ _ (and_parts _ _ p.before.good).0).1 in

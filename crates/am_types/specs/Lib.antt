@@ -18,6 +18,7 @@ pub mod Deliver
 pub mod Elements
 pub mod Places
 pub mod Replay
+pub mod EntryOrder
 pub mod Rows
 pub mod Clocks
 pub mod Canonical
