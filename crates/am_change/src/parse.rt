@@ -113,9 +113,9 @@ fn parsed(alloc: Global, bytes: &[u8]) -> Result<Change, ChangeFault>
     Ok(change)
 }
 
-/// The change with these contents of a chunk (Automerge Binary Document Format, "Change Chunks"). BadChange where no
-/// fine change has them, CompressedColumn where the parts in front of the columns can be read and list a column that is
-/// compressed by DEFLATE, NoMemory where the allocator had no memory.
+/// The change with these contents of a chunk (Automerge Binary Document Format, "Change Chunks"). CompressedColumn where
+/// the parts in front of the columns can be read and list a column that is compressed by DEFLATE, else BadChange where no
+/// fine change has them, NoMemory where the allocator had no memory.
 pub fn parse_change(alloc: Global, bytes: &[u8]) -> Result<Change, ChangeFault>
     ensures judged { Judges bytes.now result }
     // The contents of a fine change are read as this change.

@@ -1,8 +1,8 @@
 -- What a cursor of numbers holds, and how it goes on.
-use Rattle.std.proofs.Common.{◌≡◌, ℕ, suc, zero, ◌+◌, ◌*◌, ◌%◌, ◌-◌, ◌<◌, ◌≤◌, ◌^◌, List, get_or, [], ◌∷◌, ◌++◌, length, take, drop, map, Option, Some, None, Result, Ok, Err, ℤ, pos, negsuc, refl, sym, ap, ◌∙◌, subst, arith, zero-add, length-append}
+use Rattle.std.proofs.Common.{◌≡◌, ℕ, suc, zero, ◌+◌, ◌*◌, ◌%◌, ◌-◌, ◌<◌, ◌≤◌, ◌^◌, List, get_or, [], ◌∷◌, ◌++◌, length, take, drop, map, Option, Some, None, Result, Ok, Err, ℤ, pos, negsuc, refl, sym, ap, ◌∙◌, subst, arith, zero-add}
 use Rattle.std.specs.Prelude.{replicate}
 use Rattle.std.specs.Option.{option_map}
-use Rattle.std.proofs.lemmas.List.{length-replicate, length-drop, take_all}
+use Rattle.std.proofs.lemmas.List.{length-drop, take_all}
 use Rattle.am_leb.specs.declared.LebFault.{LebFault}
 use Rattle.am_leb.specs.Leb.{unsigned_value, signed_value}
 use Rattle.am_leb.specs.Reading.{first_unsigned, first_signed, low_value}
@@ -71,10 +71,10 @@ literal-entries end (suc n) p e = ap (listed (entries end n)) (literal-step end 
 
 -- ---- a place in counters
 
--- the counters hold the entries from a place: copies of an item, and what comes from the bytes
-pub record Shows (end : List ℕ → Option ℕ) (n : ℕ) (p : Place) (same nulls literal left : ℕ) (item rest : List ℕ) : Type 0 where
-  pub held : IsCounted end same nulls literal left rest
-  pub list : entries end n p ≡ replicate same (Some item) ++ (replicate nulls None ++ entries_from end literal left rest)
+-- the counters hold the entries from a place: copies of an entry, and what comes from the bytes
+pub record Shows (end : List ℕ → Option ℕ) (n : ℕ) (p : Place) (copies literal left : ℕ) (entry : Option (List ℕ)) (rest : List ℕ) : Type 0 where
+  pub held : IsCounted end copies literal left rest
+  pub list : entries end n p ≡ replicate copies entry ++ entries_from end literal left rest
 
 alone : (end : List ℕ → Option ℕ) (left : ℕ) (rest : List ℕ) → entries_from end 0 left rest ≡ entries end left (in_literal 0 rest)
 alone end left rest = ap (λ m. entries end m (in_literal 0 rest)) (zero-add left)
@@ -89,36 +89,28 @@ behind_run end n p x t h =
       entries-taken end n p x p.count to t l h ∙ ap (λ list. replicate p.count x ++ list) (between-entries end (n - p.count) to e ∙ sym (alone end (n - p.count) p.rest)),
     )
 
-pub shows_repeat : (end : List ℕ → Option ℕ) (n : ℕ) (p : Place) → p.kind ≡ kinds.Repeat → HasEntries end n p → AllItems end (entries end n p) → n < 2 ^ 64 → Shows end n p p.count 0 0 (n - p.count) p.item p.rest
-shows_repeat end n p e h i f =
-    let b = behind_run end n p (Some p.item) (take_repeat end p p.count e (omega arith)) h in
+shows_copies : (end : List ℕ → Option ℕ) (n : ℕ) (p : Place) (x : Option (List ℕ)) → Takes end p x p.count (record { kind = p.kind; count = p.count - p.count; item = p.item; rest = p.rest }) → HasEntries end n p → AllItems end (entries end n p) → n < 2 ^ 64
+    → Shows end n p p.count 0 (n - p.count) x p.rest
+shows_copies end n p x t h i f =
+    let b = behind_run end n p x t h in
     let l = count-le end n p h in
     record {
       held = record {
         holds = b.0;
-        items = AllItems-behind end p.count (Some p.item) (entries_from end 0 (n - p.count) p.rest) (subst (AllItems end) b.1 i);
-        apart = λ _. refl;
+        items = AllItems-behind end p.count x (entries_from end 0 (n - p.count) p.rest) (subst (AllItems end) b.1 i);
         fits = omega arith;
       };
       list = b.1;
     }
 
-pub shows_nulls : (end : List ℕ → Option ℕ) (n : ℕ) (p : Place) (item : List ℕ) → p.kind ≡ kinds.Nulls → HasEntries end n p → AllItems end (entries end n p) → n < 2 ^ 64 → Shows end n p 0 p.count 0 (n - p.count) item p.rest
-shows_nulls end n p item e h i f =
-    let b = behind_run end n p None (take_nulls end p p.count e (omega arith)) h in
-    let l = count-le end n p h in
-    record {
-      held = record {
-        holds = b.0;
-        items = AllItems-behind end p.count None (entries_from end 0 (n - p.count) p.rest) (subst (AllItems end) b.1 i);
-        apart = λ some. absurd (omega arith);
-        fits = omega arith;
-      };
-      list = b.1;
-    }
+pub shows_repeat : (end : List ℕ → Option ℕ) (n : ℕ) (p : Place) → p.kind ≡ kinds.Repeat → HasEntries end n p → AllItems end (entries end n p) → n < 2 ^ 64 → Shows end n p p.count 0 (n - p.count) (Some p.item) p.rest
+shows_repeat end n p e = shows_copies end n p (Some p.item) (take_repeat end p p.count e (omega arith))
 
-pub shows_literal : (end : List ℕ → Option ℕ) (n : ℕ) (p : Place) (item : List ℕ) → p.kind ≡ kinds.Literal → HasEntries end n p → AllItems end (entries end n p) → n < 2 ^ 64 → Shows end n p 0 0 p.count (n - p.count) item p.rest
-shows_literal end n p item e h i f =
+pub shows_nulls : (end : List ℕ → Option ℕ) (n : ℕ) (p : Place) → p.kind ≡ kinds.Nulls → HasEntries end n p → AllItems end (entries end n p) → n < 2 ^ 64 → Shows end n p p.count 0 (n - p.count) None p.rest
+shows_nulls end n p e = shows_copies end n p None (take_nulls end p p.count e (omega arith))
+
+pub shows_literal : (end : List ℕ → Option ℕ) (n : ℕ) (p : Place) (entry : Option (List ℕ)) → p.kind ≡ kinds.Literal → HasEntries end n p → AllItems end (entries end n p) → n < 2 ^ 64 → Shows end n p 0 p.count (n - p.count) entry p.rest
+shows_literal end n p entry e h i f =
     let l = count-le end n p h in
     let q : n ≡ p.count + (n - p.count) = omega arith in
     let whole : entries end n p ≡ entries_from end p.count (n - p.count) p.rest = literal-entries end n p e ∙ ap (λ m. entries end m (in_literal p.count p.rest)) q in
@@ -126,7 +118,6 @@ shows_literal end n p item e h i f =
       held = record {
         holds = subst (λ m. HasEntries end m (in_literal p.count p.rest)) q (literal-holds end n p e h);
         items = subst (AllItems end) whole i;
-        apart = λ _. refl;
         fits = omega arith;
       };
       list = whole;
@@ -159,7 +150,7 @@ pub run_some : (end : List ℕ → Option ℕ) (bytes : List ℕ) (p : Place) �
 run_some end bytes p e = by_some end bytes (first_signed bytes) p e
 
 -- the run that is opened has an entry at least
-pub opened-holds : (end : List ℕ → Option ℕ) (left : ℕ) (rest : List ℕ) (p : Place) → 0 < left → Some p ≡ open_run end rest → IsCounted end 0 0 0 left rest
+pub opened-holds : (end : List ℕ → Option ℕ) (left : ℕ) (rest : List ℕ) (p : Place) → 0 < left → Some p ≡ open_run end rest → IsCounted end 0 0 left rest
     → HasEntries end left p × AllItems end (entries end left p) × (entries_from end 0 left rest ≡ entries end left p) × (left < 2 ^ 64)
 opened-holds end left rest p h e w =
     let c = run_some end rest p e in
@@ -171,7 +162,7 @@ opened-holds end left rest p h e w =
       omega (arith, w.fits),
     )
 
-pub run_there : (end : List ℕ → Option ℕ) (left : ℕ) (rest : List ℕ) → 0 < left → None ≡ open_run end rest → IsCounted end 0 0 0 left rest → ⊥
+pub run_there : (end : List ℕ → Option ℕ) (left : ℕ) (rest : List ℕ) → 0 < left → None ≡ open_run end rest → IsCounted end 0 0 left rest → ⊥
 run_there end left rest h e w = never_ends end (0 + left) (in_literal 0 rest) (omega arith) (ap (within_opened end) e) w.holds
 
 -- ---- the first item of a literal run
@@ -185,17 +176,17 @@ literal_stops : (end : List ℕ → Option ℕ) (n : ℕ) (rest : List ℕ) → 
 literal_stops end zero rest h e = absurd (omega arith)
 literal_stops end (suc n) rest h e = ap (literal_step n rest) e
 
-pub literal_found : (end : List ℕ → Option ℕ) (same nulls literal left : ℕ) (rest : List ℕ) → 0 < literal → IsCounted end same nulls literal left rest → None ≡ end rest → ⊥
-literal_found end same nulls literal left rest h w e = never_ends end (literal + left) (in_literal literal rest) (omega arith) (literal_stops end literal rest h e) w.holds
+pub literal_found : (end : List ℕ → Option ℕ) (copies literal left : ℕ) (rest : List ℕ) → 0 < literal → IsCounted end copies literal left rest → None ≡ end rest → ⊥
+literal_found end copies literal left rest h w e = never_ends end (literal + left) (in_literal literal rest) (omega arith) (literal_stops end literal rest h e) w.holds
 
-pub literal_bytes : (end : List ℕ → Option ℕ) (same nulls literal left : ℕ) (rest : List ℕ) → None ≡ end [] → 0 < literal → IsCounted end same nulls literal left rest → 0 < length rest
-literal_bytes end same nulls literal left [] e h w = absurd (literal_found end same nulls literal left [] h w e)
-literal_bytes end same nulls literal left (b ∷ rest) e h w = omega arith
+pub literal_bytes : (end : List ℕ → Option ℕ) (copies literal left : ℕ) (rest : List ℕ) → None ≡ end [] → 0 < literal → IsCounted end copies literal left rest → 0 < length rest
+literal_bytes end copies literal left [] e h w = absurd (literal_found end copies literal left [] h w e)
+literal_bytes end copies literal left (b ∷ rest) e h w = omega arith
 
 -- behind the next item of a literal run
-pub literal_next : {A : Type 0} (end : List ℕ → Option ℕ) (f : List ℕ → A) (same nulls literal left : ℕ) (rest : List ℕ) (len : ℕ) (v : A) → 0 < literal → IsCounted end same nulls literal left rest → Some len ≡ end rest → v ≡ f (take len rest)
-    → IsCounted end same nulls (literal - 1) left (drop len rest) × (map (option_map f) (entries_from end literal left rest) ≡ Some v ∷ map (option_map f) (entries_from end (literal - 1) left (drop len rest)))
-literal_next end f same nulls literal left rest len v h w e x =
+pub literal_next : {A : Type 0} (end : List ℕ → Option ℕ) (f : List ℕ → A) (copies literal left : ℕ) (rest : List ℕ) (len : ℕ) (v : A) → 0 < literal → IsCounted end copies literal left rest → Some len ≡ end rest → v ≡ f (take len rest)
+    → IsCounted end copies (literal - 1) left (drop len rest) × (map (option_map f) (entries_from end literal left rest) ≡ Some v ∷ map (option_map f) (entries_from end (literal - 1) left (drop len rest)))
+literal_next end f copies literal left rest len v h w e x =
     let next : Option (List ℕ) × Place = (Some (take len rest), in_literal (literal - 1) (drop len rest)) in
     let s = literal_steps end literal rest len h e in
     let q : literal + left - 1 ≡ literal - 1 + left = omega arith in
@@ -205,7 +196,6 @@ literal_next end f same nulls literal left rest len v h w e x =
       record {
         holds = subst (λ m. HasEntries end m next.1) q (HasEntries-more end (literal + left) (in_literal literal rest) next (omega arith) s w.holds);
         items = items.1;
-        apart = λ some. w.apart (omega arith);
         fits = omega (arith, w.fits);
       },
       ap (map (option_map f)) list ∙ ap (λ y. Some y ∷ map (option_map f) (entries_from end (literal - 1) left (drop len rest))) (sym x),
@@ -213,68 +203,61 @@ literal_next end f same nulls literal left rest len v h w e x =
 
 -- ---- copies
 
-pub fewer : (end : List ℕ → Option ℕ) (same same' nulls nulls' literal left : ℕ) (rest : List ℕ) → same' ≤ same → nulls' ≤ nulls → IsCounted end same nulls literal left rest → IsCounted end same' nulls' literal left rest
-fewer end same same' nulls nulls' literal left rest s n w = record {
+pub fewer : (end : List ℕ → Option ℕ) (copies copies' literal left : ℕ) (rest : List ℕ) → copies' ≤ copies → IsCounted end copies literal left rest → IsCounted end copies' literal left rest
+fewer end copies copies' literal left rest le w = record {
   holds = w.holds;
   items = w.items;
-  apart = λ some. let q : nulls ≡ 0 = w.apart some in omega arith;
   fits = omega (arith, w.fits);
 }
 
 -- the numbers behind the run that is opened
-pub first_same : {A : Type 0} (f : List ℕ → A) (list list' : List (Option (List ℕ))) (k : ℕ) (item : List ℕ) (v : A) → list ≡ replicate k (Some item) ++ list' → 0 < k → v ≡ f item → map (option_map f) list ≡ Some v ∷ counted f (k - 1) v 0 list'
-first_same f list list' k item v e h x =
-    ap (map (option_map f)) e ∙ map_taken (option_map f) k (Some item) list' ∙ ap (λ y. replicate k (Some y) ++ map (option_map f) list') (sym x) ∙ held_first k (Some v) (map (option_map f) list') h
-
-pub first_null : {A : Type 0} (f : List ℕ → A) (list list' : List (Option (List ℕ))) (k : ℕ) (v : A) → list ≡ replicate k None ++ list' → 0 < k → map (option_map f) list ≡ None ∷ counted f 0 v (k - 1) list'
-first_null f list list' k v e h =
-    ap (map (option_map f)) e ∙ map_taken (option_map f) k None list' ∙ held_first k None (map (option_map f) list') h
+pub first_copy : {A : Type 0} (f : List ℕ → A) (list list' : List (Option (List ℕ))) (k : ℕ) (entry : Option (List ℕ)) (v : Option A) → list ≡ replicate k entry ++ list' → 0 < k → v ≡ option_map f entry → map (option_map f) list ≡ v ∷ counted f (k - 1) v list'
+first_copy f list list' k entry v e h x =
+    ap (map (option_map f)) e ∙ map_taken (option_map f) k entry list' ∙ ap (λ y. replicate k y ++ map (option_map f) list') (sym x) ∙ held_first k v (map (option_map f) list') h
 
 -- what the counters show
-pub counted_of : {A : Type 0} (f : List ℕ → A) (list list' : List (Option (List ℕ))) (same nulls : ℕ) (item : List ℕ) (v : A) → list ≡ replicate same (Some item) ++ (replicate nulls None ++ list') → (0 < same → v ≡ f item) → counted f same v nulls list' ≡ map (option_map f) list
-counted_of f list list' same nulls item v e x =
-    sym (ap (map (option_map f)) e ∙ map_taken (option_map f) same (Some item) (replicate nulls None ++ list') ∙ ap (λ l. replicate same (Some (f item)) ++ l) (map_taken (option_map f) nulls None list')
-    ∙ copies same x)
+pub counted_of : {A : Type 0} (f : List ℕ → A) (list list' : List (Option (List ℕ))) (copies : ℕ) (entry : Option (List ℕ)) (v : Option A) → list ≡ replicate copies entry ++ list' → (0 < copies → v ≡ option_map f entry) → counted f copies v list' ≡ map (option_map f) list
+counted_of f list list' copies entry v e x =
+    sym (ap (map (option_map f)) e ∙ map_taken (option_map f) copies entry list' ∙ each copies x)
   where
-    copies : (k : ℕ) → (0 < k → v ≡ f item) → replicate k (Some (f item)) ++ (replicate nulls None ++ map (option_map f) list') ≡ replicate k (Some v) ++ (replicate nulls None ++ map (option_map f) list')
-    copies zero x = refl
-    copies (suc k) x = ap (λ y. replicate (suc k) (Some y) ++ (replicate nulls None ++ map (option_map f) list')) (sym (x (omega arith)))
+    each : (k : ℕ) → (0 < k → v ≡ option_map f entry) → replicate k (option_map f entry) ++ map (option_map f) list' ≡ replicate k v ++ map (option_map f) list'
+    each zero x = refl
+    each (suc k) x = ap (λ y. replicate (suc k) y ++ map (option_map f) list') (sym (x (omega arith)))
 
-pub counted_none : {A : Type 0} (f : List ℕ → A) (same nulls : ℕ) (v : A) (list : List (Option (List ℕ))) → same ≡ 0 → nulls ≡ 0 → counted f same v nulls list ≡ map (option_map f) list
-counted_none f same nulls v list s n = held_none same (Some v) (replicate nulls None ++ map (option_map f) list) s ∙ held_none nulls None (map (option_map f) list) n
+pub counted_none : {A : Type 0} (f : List ℕ → A) (copies : ℕ) (v : Option A) (list : List (Option (List ℕ))) → copies ≡ 0 → counted f copies v list ≡ map (option_map f) list
+counted_none f copies v list e = held_none copies v (map (option_map f) list) e
 
-pub length-counted : {A : Type 0} (f : List ℕ → A) (same nulls : ℕ) (v : A) (list : List (Option (List ℕ))) → length (counted f same v nulls list) ≡ same + nulls + length list
-length-counted f same nulls v list =
-    omega (arith, length-append (replicate same (Some v)) (replicate nulls None ++ map (option_map f) list), length-replicate same (Some v), length-held (option_map f) nulls None list)
+pub length-counted : {A : Type 0} (f : List ℕ → A) (copies : ℕ) (v : Option A) (list : List (Option (List ℕ))) → length (counted f copies v list) ≡ copies + length list
+length-counted f copies v list = length-held (option_map f) copies v list
 
 -- ---- the run that is opened
 
-pub opened-count : (end : List ℕ → Option ℕ) (left : ℕ) (rest : List ℕ) (p : Place) → 0 < left → Some p ≡ open_run end rest → IsCounted end 0 0 0 left rest → p.count ≤ left
+pub opened-count : (end : List ℕ → Option ℕ) (left : ℕ) (rest : List ℕ) (p : Place) → 0 < left → Some p ≡ open_run end rest → IsCounted end 0 0 left rest → p.count ≤ left
 opened-count end left rest p h e w = count-le end left p (opened-holds end left rest p h e w).0
 
-pub opened_repeat : {A : Type 0} (end : List ℕ → Option ℕ) (f : List ℕ → A) (left : ℕ) (rest : List ℕ) (p : Place) (v : A) → 0 < left → Some p ≡ open_run end rest → IsCounted end 0 0 0 left rest → p.kind ≡ kinds.Repeat → v ≡ f p.item
-    → IsCounted end (p.count - 1) 0 0 (left - p.count) p.rest × (map (option_map f) (entries_from end 0 left rest) ≡ Some v ∷ counted f (p.count - 1) v 0 (entries_from end 0 (left - p.count) p.rest))
+pub opened_repeat : {A : Type 0} (end : List ℕ → Option ℕ) (f : List ℕ → A) (left : ℕ) (rest : List ℕ) (p : Place) (v : A) → 0 < left → Some p ≡ open_run end rest → IsCounted end 0 0 left rest → p.kind ≡ kinds.Repeat → v ≡ f p.item
+    → IsCounted end (p.count - 1) 0 (left - p.count) p.rest × (map (option_map f) (entries_from end 0 left rest) ≡ Some v ∷ counted f (p.count - 1) (Some v) (entries_from end 0 (left - p.count) p.rest))
 opened_repeat end f left rest p v h e w k x =
     let o = opened-holds end left rest p h e w in
     let s = shows_repeat end left p k o.0 o.1 o.3 in (
-      fewer end p.count (p.count - 1) 0 0 0 (left - p.count) p.rest (omega arith) (omega arith) s.held,
-      first_same f (entries_from end 0 left rest) (entries_from end 0 (left - p.count) p.rest) p.count p.item v (o.2 ∙ s.list) (run_some end rest p e) x,
+      fewer end p.count (p.count - 1) 0 (left - p.count) p.rest (omega arith) s.held,
+      first_copy f (entries_from end 0 left rest) (entries_from end 0 (left - p.count) p.rest) p.count (Some p.item) (Some v) (o.2 ∙ s.list) (run_some end rest p e) (ap Some x),
     )
 
-pub opened_nulls : {A : Type 0} (end : List ℕ → Option ℕ) (f : List ℕ → A) (left : ℕ) (rest : List ℕ) (p : Place) (v : A) → 0 < left → Some p ≡ open_run end rest → IsCounted end 0 0 0 left rest → p.kind ≡ kinds.Nulls
-    → IsCounted end 0 (p.count - 1) 0 (left - p.count) p.rest × (map (option_map f) (entries_from end 0 left rest) ≡ None ∷ counted f 0 v (p.count - 1) (entries_from end 0 (left - p.count) p.rest))
-opened_nulls end f left rest p v h e w k =
+pub opened_nulls : {A : Type 0} (end : List ℕ → Option ℕ) (f : List ℕ → A) (left : ℕ) (rest : List ℕ) (p : Place) → 0 < left → Some p ≡ open_run end rest → IsCounted end 0 0 left rest → p.kind ≡ kinds.Nulls
+    → IsCounted end (p.count - 1) 0 (left - p.count) p.rest × (map (option_map f) (entries_from end 0 left rest) ≡ None ∷ counted f (p.count - 1) None (entries_from end 0 (left - p.count) p.rest))
+opened_nulls end f left rest p h e w k =
     let o = opened-holds end left rest p h e w in
-    let s = shows_nulls end left p [] k o.0 o.1 o.3 in (
-      fewer end 0 0 p.count (p.count - 1) 0 (left - p.count) p.rest (omega arith) (omega arith) s.held,
-      first_null f (entries_from end 0 left rest) (entries_from end 0 (left - p.count) p.rest) p.count v (o.2 ∙ s.list) (run_some end rest p e),
+    let s = shows_nulls end left p k o.0 o.1 o.3 in (
+      fewer end p.count (p.count - 1) 0 (left - p.count) p.rest (omega arith) s.held,
+      first_copy f (entries_from end 0 left rest) (entries_from end 0 (left - p.count) p.rest) p.count None None (o.2 ∙ s.list) (run_some end rest p e) refl,
     )
 
-pub opened_literal : (end : List ℕ → Option ℕ) (left : ℕ) (rest : List ℕ) (p : Place) → 0 < left → Some p ≡ open_run end rest → IsCounted end 0 0 0 left rest → p.kind ≡ kinds.Literal
-    → IsCounted end 0 0 p.count (left - p.count) p.rest × (entries_from end 0 left rest ≡ entries_from end p.count (left - p.count) p.rest)
+pub opened_literal : (end : List ℕ → Option ℕ) (left : ℕ) (rest : List ℕ) (p : Place) → 0 < left → Some p ≡ open_run end rest → IsCounted end 0 0 left rest → p.kind ≡ kinds.Literal
+    → IsCounted end 0 p.count (left - p.count) p.rest × (entries_from end 0 left rest ≡ entries_from end p.count (left - p.count) p.rest)
 opened_literal end left rest p h e w k =
     let o = opened-holds end left rest p h e w in
-    let s = shows_literal end left p [] k o.0 o.1 o.3 in
+    let s = shows_literal end left p None k o.0 o.1 o.3 in
     (s.held, o.2 ∙ s.list)
 
 -- ---- the first byte of a literal run
@@ -297,22 +280,17 @@ pub signed_nothing : None ≡ signed_end []
 unfolding first_signed
 signed_nothing = refl
 
-pub literal_taken : {A : Type 0} (end : List ℕ → Option ℕ) (f : List ℕ → A) (same nulls literal left : ℕ) (rest : List ℕ) (len : ℕ) (v : A) → 0 < literal → IsCounted end same nulls literal left rest → Some len ≡ end rest → v ≡ f (take len rest)
-    → IsCounted end same nulls (literal - 1) left (take (length rest - len) (drop len rest)) × (map (option_map f) (entries_from end literal left rest) ≡ Some v ∷ map (option_map f) (entries_from end (literal - 1) left (take (length rest - len) (drop len rest))))
-literal_taken end f same nulls literal left rest len v h w e x =
+pub literal_taken : {A : Type 0} (end : List ℕ → Option ℕ) (f : List ℕ → A) (copies literal left : ℕ) (rest : List ℕ) (len : ℕ) (v : A) → 0 < literal → IsCounted end copies literal left rest → Some len ≡ end rest → v ≡ f (take len rest)
+    → IsCounted end copies (literal - 1) left (take (length rest - len) (drop len rest)) × (map (option_map f) (entries_from end literal left rest) ≡ Some v ∷ map (option_map f) (entries_from end (literal - 1) left (take (length rest - len) (drop len rest))))
+literal_taken end f copies literal left rest len v h w e x =
     let whole : take (length rest - len) (drop len rest) ≡ drop len rest = take_all (length rest - len) (drop len rest) (omega (arith, length-drop len rest)) in
-    subst (λ r. IsCounted end same nulls (literal - 1) left r × (map (option_map f) (entries_from end literal left rest) ≡ Some v ∷ map (option_map f) (entries_from end (literal - 1) left r))) (sym whole)
-    (literal_next end f same nulls literal left rest len v h w e x)
+    subst (λ r. IsCounted end copies (literal - 1) left r × (map (option_map f) (entries_from end literal left rest) ≡ Some v ∷ map (option_map f) (entries_from end (literal - 1) left r))) (sym whole)
+    (literal_next end f copies literal left rest len v h w e x)
 
 -- ---- leaving out
 
-pub drop_same : {A : Type 0} (f : List ℕ → A) (n same nulls : ℕ) (v : A) (list : List (Option (List ℕ))) → n ≤ same → counted f (same - n) v nulls list ≡ drop n (counted f same v nulls list)
-drop_same f n same nulls v list h = drop_held n same (Some v) (replicate nulls None ++ map (option_map f) list) h
+pub drop_copies : {A : Type 0} (f : List ℕ → A) (n copies : ℕ) (v : Option A) (list : List (Option (List ℕ))) → n ≤ copies → counted f (copies - n) v list ≡ drop n (counted f copies v list)
+drop_copies f n copies v list h = drop_held n copies v (map (option_map f) list) h
 
-pub drop_nulls : {A : Type 0} (f : List ℕ → A) (n same nulls : ℕ) (v : A) (list : List (Option (List ℕ))) → same ≤ n → n - same ≤ nulls → counted f 0 v (nulls - (n - same)) list ≡ drop n (counted f same v nulls list)
-drop_nulls f n same nulls v list h g =
-    drop_held (n - same) nulls None (map (option_map f) list) g ∙ drop_past n same (Some v) (replicate nulls None ++ map (option_map f) list) h
-
-pub drop_more : {A : Type 0} (f : List ℕ → A) (n same nulls : ℕ) (v : A) (list : List (Option (List ℕ))) → same ≤ n → nulls ≤ n - same → map (option_map f) (drop (n - same - nulls) list) ≡ drop n (counted f same v nulls list)
-drop_more f n same nulls v list h g =
-    map_drop (option_map f) (n - same - nulls) list ∙ drop_past (n - same) nulls None (map (option_map f) list) g ∙ drop_past n same (Some v) (replicate nulls None ++ map (option_map f) list) h
+pub drop_more : {A : Type 0} (f : List ℕ → A) (n copies : ℕ) (v : Option A) (list : List (Option (List ℕ))) → copies ≤ n → map (option_map f) (drop (n - copies) list) ≡ drop n (counted f copies v list)
+drop_more f n copies v list h = map_drop (option_map f) (n - copies) list ∙ drop_past n copies v (map (option_map f) list) h

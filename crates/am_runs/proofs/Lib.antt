@@ -21,3 +21,4 @@ pub mod Taken
 pub mod Counted
 pub mod TextSpellings
 pub mod LiteralTexts
+pub mod Skimmed

@@ -1,10 +1,12 @@
 //! Kinds of items, each known by where its spellings end: numbers in their shortest LEB128, and texts behind their length.
-ghost use Rattle.std.specs.Prelude.{◌≡◌, ◌<◌, ◌≤◌, ◌^◌, ◌↔◌, ℕ, List, Option, length, IfSome, IsUtf8, FitsSigned, ℤ};
+ghost use Rattle.std.specs.Prelude.{◌≡◌, ◌<◌, ◌≤◌, ◌^◌, ◌↔◌, ℕ, List, Option, length, Some, IfSome, IsUtf8, FitsSigned, ℤ};
 ghost use Rattle.std.specs.Int.{w64};
 ghost use Rattle.std.specs.Str.{is_utf8};
 ghost use Rattle.am_leb.specs.Leb.{uleb, leb};
+ghost use Rattle.am_runs.specs.Walking.{behind_items};
 ghost use Rattle.am_runs.specs.Items.{ReadsItems, IsItem, unsigned_end, signed_end, text_end, text_spelling};
 
+use crate::skim::{skim_signed, skim_unsigned};
 use am_leb::{read_i, read_u};
 use std::str::from_utf8;
 
@@ -17,6 +19,13 @@ pub trait Item {
     fn end(bytes: &[u8]) -> Option<usize>
         ensures exact { result ≡ end_of bytes.now }
         ensures within { IfSome result (λ n. n ≤ length bytes.now) };
+
+    /// The bytes behind the first items, `count` of them, where that is seen without reading each. It may always give up.
+    fn skim<'a>(count: u64, bytes: &'a [u8]) -> Option<&'a [u8]>
+        ensures skimmed { IfSome result (λ rest. behind_items end_of count bytes.now ≡ Some rest.now) }
+    {
+        None
+    }
 
     ghost reads: { ReadsItems end_of };
 }
@@ -38,6 +47,10 @@ impl Item for UnsignedItem {
             Err(_) => None,
         }
     }
+
+    fn skim<'a>(count: u64, bytes: &'a [u8]) -> Option<&'a [u8]> {
+        skim_unsigned(count, bytes)
+    }
 }
 
 /// Numbers from -2^63 up to 2^63 - 1, each in its shortest signed LEB128.
@@ -56,6 +69,10 @@ impl Item for SignedItem {
             Ok((_, len)) => Some(len),
             Err(_) => None,
         }
+    }
+
+    fn skim<'a>(count: u64, bytes: &'a [u8]) -> Option<&'a [u8]> {
+        skim_signed(count, bytes)
     }
 }
 

@@ -14,6 +14,7 @@ mod pending;
 mod place;
 mod run;
 mod signed;
+mod skim;
 mod skipping;
 mod taking;
 #[cfg(test)]

@@ -32,6 +32,17 @@ fn behind<'a, K: Item>(count: u64, bytes: &'a [u8]) -> Option<&'a [u8]>
     Some(rest)
 }
 
+// The bytes behind the items of a literal run, skimmed where that can be done.
+#[inline(always)]
+fn behind_literal<'a, K: Item>(count: u64, bytes: &'a [u8]) -> Option<&'a [u8]>
+    ensures { option_copied result ≡ behind_items K.end_of count bytes.now }
+{
+    match K::skim(count, bytes) {
+        Some(rest) => Some(rest),
+        None => behind::<K>(count, bytes),
+    }
+}
+
 /// How many entries the run has that begins the bytes, and what is behind it.
 pub fn run_at<'a, K: Item>(bytes: &'a [u8], most: u64) -> Option<(u64, &'a [u8])>
     ensures found { IfSome result (λ x. (x.0 ≤ most) × BeginsRun K.end_of bytes.now x.0 x.1.now) }
@@ -44,7 +55,7 @@ pub fn run_at<'a, K: Item>(bytes: &'a [u8], most: u64) -> Option<(u64, &'a [u8])
                 return None;
             }
             match at.kind {
-                Kind::Literal => match behind::<K>(at.count, at.rest) {
+                Kind::Literal => match behind_literal::<K>(at.count, at.rest) {
                     None => None,
                     Some(rest) => Some((at.count, rest)),
                 },

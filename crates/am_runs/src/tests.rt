@@ -129,3 +129,51 @@ fn repeated(rt: HostRuntime) {
     assert_eq!(rt; words.next(), Some(None));
     assert_eq!(rt; words.next(), None);
 }
+
+#[test]
+fn skimmed(rt: HostRuntime) {
+    // a literal run, and whether it has as many numbers as it says: unsigned ones, signed ones
+    let table: [(&[u8], bool, bool); 12] = [
+        (&[0x7e, 0x80, 1, 1], true, true),
+        (&[0x7e, 1, 0x80, 0], false, false),
+        (&[0x7e, 0xc0, 0, 5], false, true),
+        (&[0x7e, 0xbf, 0x7f, 5], true, true),
+        (&[0x7e, 0xff, 0x7f, 5], true, false),
+        (
+            &[0x7f, 0x80, 0x80, 0x80, 0x80, 0x80, 0x80, 0x80, 0x80, 1],
+            true,
+            true,
+        ),
+        (
+            &[
+                0x7f, 0x80, 0x80, 0x80, 0x80, 0x80, 0x80, 0x80, 0x80, 0x80, 1,
+            ],
+            true,
+            false,
+        ),
+        (
+            &[
+                0x7f, 0x80, 0x80, 0x80, 0x80, 0x80, 0x80, 0x80, 0x80, 0x80, 0x7f,
+            ],
+            false,
+            true,
+        ),
+        (
+            &[
+                0x7f, 0x80, 0x80, 0x80, 0x80, 0x80, 0x80, 0x80, 0x80, 0x80, 0x80, 1,
+            ],
+            false,
+            false,
+        ),
+        (&[0x7e, 0x80, 1], false, false),
+        (&[0x7d, 5, 0x80, 1], false, false),
+        (&[0x7d, 1, 2], false, false),
+    ];
+    for (bytes, unsigned, signed) in table {
+        let judged = (
+            UnsignedCursor::over(bytes, 3).is_ok(),
+            SignedCursor::over(bytes, 3).is_ok(),
+        );
+        assert_eq!(rt; judged, (unsigned, signed), "of {bytes:?}");
+    }
+}

@@ -29,12 +29,11 @@ fn number_of(entry: Option<&[u8]>) -> Option<u64>
 // The next number of the literal run that is being read. One of a single byte is read with no look at how many bytes there are.
 #[inline(always)]
 fn literal_number<'a>(at: &mut Counters<'a>) -> Option<u64>
-    requires held { IsCounted unsigned_end at.old.same at.old.nulls at.old.literal at.old.left at.old.rest.now }
+    requires held { IsCounted unsigned_end at.old.copies at.old.literal at.old.left at.old.rest.now }
     requires literal { 0 < at.old.literal }
     ensures some { IsSome result }
-    ensures held { IsCounted unsigned_end at.new.same at.new.nulls at.new.literal at.new.left at.new.rest.now }
-    ensures same { at.new.same ≡ at.old.same }
-    ensures nulls { at.new.nulls ≡ at.old.nulls }
+    ensures held { IsCounted unsigned_end at.new.copies at.new.literal at.new.left at.new.rest.now }
+    ensures copies { at.new.copies ≡ at.old.copies }
     ensures next { IfSome result (λ n. unsigned_numbers (entries_from unsigned_end at.old.literal at.old.left at.old.rest.now)
         ≡ Some n ∷ unsigned_numbers (entries_from unsigned_end at.new.literal at.new.left at.new.rest.now)) }
 {
@@ -57,34 +56,34 @@ fn literal_number<'a>(at: &mut Counters<'a>) -> Option<u64>
 
 // Opens the run behind, and takes its first number.
 #[inline(always)]
-fn opened<'a>(at: &mut Counters<'a>, value: &mut u64) -> Option<Option<u64>>
-    requires held { IsCounted unsigned_end 0 0 0 at.old.left at.old.rest.now }
+fn opened<'a>(at: &mut Counters<'a>, value: &mut Option<u64>) -> Option<Option<u64>>
+    requires held { IsCounted unsigned_end 0 0 at.old.left at.old.rest.now }
     requires some { 0 < at.old.left }
     ensures some { IsSome result }
-    ensures held { IsCounted unsigned_end at.new.same at.new.nulls at.new.literal at.new.left at.new.rest.now }
+    ensures held { IsCounted unsigned_end at.new.copies at.new.literal at.new.left at.new.rest.now }
     ensures next { IfSome result (λ first. unsigned_numbers (entries_from unsigned_end 0 at.old.left at.old.rest.now)
-        ≡ first ∷ counted unsigned_value at.new.same value.new at.new.nulls (entries_from unsigned_end at.new.literal at.new.left at.new.rest.now)) }
+        ≡ first ∷ counted unsigned_value at.new.copies value.new (entries_from unsigned_end at.new.literal at.new.left at.new.rest.now)) }
 {
     match unsigned_run(at.rest) {
         None => None,
         Some((run, n)) => {
             let left = at.left - run.count;
             let mut next = Counters {
-                same: 0,
+                copies: 0,
                 literal: 0,
-                nulls: 0,
                 rest: run.rest,
                 left,
             };
             match run.kind {
                 Kind::Repeat => {
-                    next.same = run.count - 1;
-                    *value = n;
+                    next.copies = run.count - 1;
+                    *value = Some(n);
                     *at = next;
                     Some(Some(n))
                 }
                 Kind::Nulls => {
-                    next.nulls = run.count - 1;
+                    next.copies = run.count - 1;
+                    *value = None;
                     *at = next;
                     Some(None)
                 }
@@ -105,8 +104,8 @@ fn opened<'a>(at: &mut Counters<'a>, value: &mut u64) -> Option<Option<u64>>
 #[derive(Drop)]
 pub struct UnsignedCursor<'a> {
     at: Counters<'a>,
-    // of this number there are copies
-    value: u64,
+    // of this there are copies
+    value: Option<u64>,
 }
 
 impl<'a> Model for UnsignedCursor<'a> {
@@ -118,9 +117,9 @@ impl<'a> Model for UnsignedCursor<'a> {
     ghost use Rattle.am_runs.specs.Items.{unsigned_end};
     ghost use Rattle.am_runs.specs.Counters.{IsCounted, counted, entries_from};
 
-    ghost view = { λ a. counted unsigned_value a.at.same a.value a.at.nulls (entries_from unsigned_end a.at.literal a.at.left a.at.rest.now) };
+    ghost view = { λ a. counted unsigned_value a.at.copies a.value (entries_from unsigned_end a.at.literal a.at.left a.at.rest.now) };
 
-    ghost invariant = { λ a. IsCounted unsigned_end a.at.same a.at.nulls a.at.literal a.at.left a.at.rest.now };
+    ghost invariant = { λ a. IsCounted unsigned_end a.at.copies a.at.literal a.at.left a.at.rest.now };
 }
 
 // A cursor over what the entries spell.
@@ -128,11 +127,11 @@ fn numbers_of<'a>(runs: &RunCursor<'a, UnsignedItem>) -> UnsignedCursor<'a>
     requires { AllItems unsigned_end runs.now }
     ensures { result ≡ unsigned_numbers runs.now }
 {
-    let (at, item) = counters_of(runs);
-    let value = if at.same > 0 {
-        unsigned_number(item)
+    let (at, entry) = counters_of(runs);
+    let value = if at.copies > 0 {
+        number_of(entry)
     } else {
-        0
+        None
     };
     UnsignedCursor { at, value }
 }
@@ -153,7 +152,7 @@ impl<'a> UnsignedCursor<'a> {
     pub fn left(&self) -> u64
         ensures { result ≡ length self.now }
     {
-        self.at.same + self.at.nulls + (self.at.literal + self.at.left)
+        self.at.copies + (self.at.literal + self.at.left)
     }
 
     /// The same cursor again.
@@ -170,18 +169,12 @@ impl<'a> UnsignedCursor<'a> {
     pub fn skip(&mut self, n: u64)
         ensures { self.new ≡ drop n self.old }
     {
-        if n <= self.at.same {
-            self.at.same -= n;
-            return;
-        }
-        let n = n - self.at.same;
-        self.at.same = 0;
-        if n <= self.at.nulls {
-            self.at.nulls -= n;
+        if n <= self.at.copies {
+            self.at.copies -= n;
             return;
         }
         let mut runs = runs_from::<UnsignedItem>(&self.at);
-        runs.skip(n - self.at.nulls);
+        runs.skip(n - self.at.copies);
         *self = numbers_of(&runs);
     }
 
@@ -190,11 +183,8 @@ impl<'a> UnsignedCursor<'a> {
         ensures end { IfNone result (self.now ≡ []) }
         ensures like { IfSome result (λ r. (1 ≤ r.1) × (r.1 ≤ length self.now) × (take r.1 self.now ≡ replicate r.1 r.0)) }
     {
-        if self.at.same > 0 {
-            return Some((Some(self.value), self.at.same));
-        }
-        if self.at.nulls > 0 {
-            return Some((None, self.at.nulls));
+        if self.at.copies > 0 {
+            return Some((self.value, self.at.copies));
         }
         match runs_from::<UnsignedItem>(&self.at).like() {
             None => None,
@@ -208,19 +198,15 @@ impl<'a> UnsignedCursor<'a> {
         ensures end { IfNone result ((self.old ≡ []) × (self.new ≡ [])) }
         ensures next { IfSome result (λ value. self.old ≡ value ∷ self.new) }
     {
-        if self.at.same > 0 {
-            self.at.same -= 1;
-            return Some(Some(self.value));
+        if self.at.copies > 0 {
+            self.at.copies -= 1;
+            return Some(self.value);
         }
         if self.at.literal > 0 {
             return match literal_number(&mut self.at) {
                 None => None,
                 Some(n) => Some(Some(n)),
             };
-        }
-        if self.at.nulls > 0 {
-            self.at.nulls -= 1;
-            return Some(None);
         }
         if self.at.left == 0 {
             return None;

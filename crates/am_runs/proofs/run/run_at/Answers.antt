@@ -8,11 +8,11 @@ returns-then-at-most-clause-none g c = λ count rest b. omega (arith, opened_cou
 pub returns-in-None-clause-none : goal.returns-in-None-clause-none
 returns-in-None-clause-none g c = λ count rest b. absurd (none_opened _ g.met.K.Item.reads _ count rest c.in-None.ensures b)
 
-pub returns-in-None-behind-clause-none : goal.returns-in-None-behind-clause-none
-returns-in-None-behind-clause-none g c = λ count rest b. absurd (literal_not_passed _ g.met.K.Item.reads _ _ count rest c.in-Some.ensures c.in-Literal.is c.in-None-behind.ensures b)
+pub returns-in-None-behind_literal-clause-none : goal.returns-in-None-behind_literal-clause-none
+returns-in-None-behind_literal-clause-none g c = λ count rest b. absurd (literal_not_passed _ g.met.K.Item.reads _ _ count rest c.in-Some.ensures c.in-Literal.is c.in-None-behind_literal.ensures b)
 
-pub returns-in-Some-behind-clause-found : goal.returns-in-Some-behind-clause-found
-returns-in-Some-behind-clause-found g c = (omega arith, begins_literal _ g.met.K.Item.reads _ (record { kind = c.in-Some.at.kind; count = c.in-Some.at.count; item = c.in-Some.at.item.now; rest = c.in-Some.at.rest.now }) _ c.in-Literal.is c.in-Some-behind.ensures (begins_kind _ g.met.K.Item.reads _ (record { kind = c.in-Some.at.kind; count = c.in-Some.at.count; item = c.in-Some.at.item.now; rest = c.in-Some.at.rest.now }) (λ i. omega (arith, c.type_inv.bytes i)) c.in-Some.ensures))
+pub returns-in-Some-behind_literal-clause-found : goal.returns-in-Some-behind_literal-clause-found
+returns-in-Some-behind_literal-clause-found g c = (omega arith, begins_literal _ g.met.K.Item.reads _ (record { kind = c.in-Some.at.kind; count = c.in-Some.at.count; item = c.in-Some.at.item.now; rest = c.in-Some.at.rest.now }) _ c.in-Literal.is c.in-Some-behind_literal.ensures (begins_kind _ g.met.K.Item.reads _ (record { kind = c.in-Some.at.kind; count = c.in-Some.at.count; item = c.in-Some.at.item.now; rest = c.in-Some.at.rest.now }) (λ i. omega (arith, c.type_inv.bytes i)) c.in-Some.ensures))
 
 pub returns-in-Repeat-clause-found : goal.returns-in-Repeat-clause-found
 returns-in-Repeat-clause-found g c = (omega arith, begins_repeat _ _ (record { kind = c.in-Some.at.kind; count = c.in-Some.at.count; item = c.in-Some.at.item.now; rest = c.in-Some.at.rest.now }) c.in-Repeat.is (begins_kind _ g.met.K.Item.reads _ (record { kind = c.in-Some.at.kind; count = c.in-Some.at.count; item = c.in-Some.at.item.now; rest = c.in-Some.at.rest.now }) (λ i. omega (arith, c.type_inv.bytes i)) c.in-Some.ensures))

@@ -7,34 +7,34 @@ use Rattle.am_runs.proofs.Counted.{signed_nothing, signed_low, literal_found, li
 use Rattle.am_runs.proofs.signed.literal_number.Goals as goal
 
 pub bounds-rest-0 : goal.bounds-rest-0
-bounds-rest-0 c = literal_bytes signed_end _ _ _ _ _ signed_nothing c.requires.literal c.requires.held
+bounds-rest-0 c = literal_bytes signed_end _ _ _ _ signed_nothing c.requires.literal c.requires.held
 
 pub slice_bounds-at-count : goal.slice_bounds-at-count
-slice_bounds-at-count c = let some : 0 < length c.args.at.now.rest.now = literal_bytes signed_end _ _ _ _ _ signed_nothing c.requires.literal c.requires.held in omega arith
+slice_bounds-at-count c = let some : 0 < length c.args.at.now.rest.now = literal_bytes signed_end _ _ _ _ signed_nothing c.requires.literal c.requires.held in omega arith
 
 pub slice_bounds-at-start : goal.slice_bounds-at-start
-slice_bounds-at-start c = let some : 0 < length c.args.at.now.rest.now = literal_bytes signed_end _ _ _ _ _ signed_nothing c.requires.literal c.requires.held in omega arith
+slice_bounds-at-start c = let some : 0 < length c.args.at.now.rest.now = literal_bytes signed_end _ _ _ _ signed_nothing c.requires.literal c.requires.held in omega arith
 
 pub returns-then-first-lt128-clause-held : goal.returns-then-first-lt128-clause-held
 returns-then-first-lt128-clause-held c =
     let rest = c.args.at.now.rest.now in
-    let low = signed_low rest (literal_bytes signed_end _ _ _ _ _ signed_nothing c.requires.literal c.requires.held) c.if-first-lt128.true in
-    (literal_taken signed_end signed_value _ _ _ _ rest 1 (low_value (get_or rest 0 0)) c.requires.literal c.requires.held low.0 low.1).0
+    let low = signed_low rest (literal_bytes signed_end _ _ _ _ signed_nothing c.requires.literal c.requires.held) c.if-first-lt128.true in
+    (literal_taken signed_end signed_value _ _ _ rest 1 (low_value (get_or rest 0 0)) c.requires.literal c.requires.held low.0 low.1).0
 
 pub returns-then-first-lt128-clause-next : goal.returns-then-first-lt128-clause-next
 returns-then-first-lt128-clause-next c =
     let rest = c.args.at.now.rest.now in
-    let low = signed_low rest (literal_bytes signed_end _ _ _ _ _ signed_nothing c.requires.literal c.requires.held) c.if-first-lt128.true in
+    let low = signed_low rest (literal_bytes signed_end _ _ _ _ signed_nothing c.requires.literal c.requires.held) c.if-first-lt128.true in
     let fits : SFits w64 c.low_number.result = search rules in
-    (literal_taken signed_end signed_value _ _ _ _ rest 1 (to_z w64 (of_z w64 c.low_number.result)) c.requires.literal c.requires.held low.0 (to_z-of_z fits ∙ c.low_number.ensures ∙ low.1)).1
+    (literal_taken signed_end signed_value _ _ _ rest 1 (to_z w64 (of_z w64 c.low_number.result)) c.requires.literal c.requires.held low.0 (to_z-of_z fits ∙ c.low_number.ensures ∙ low.1)).1
 
 pub returns-in-None-clause-some : goal.returns-in-None-clause-some
-returns-in-None-clause-some c = absurd (literal_found signed_end _ _ _ _ _ c.requires.literal c.requires.held c.in-None.ensures.end)
+returns-in-None-clause-some c = absurd (literal_found signed_end _ _ _ _ c.requires.literal c.requires.held c.in-None.ensures.end)
 
 pub returns-in-Some-clause-held : goal.returns-in-Some-clause-held
-returns-in-Some-clause-held c = (literal_taken signed_end signed_value _ _ _ _ c.args.at.now.rest.now c.in-Some.len c.in-Some.n c.requires.literal c.requires.held c.in-Some.ensures.end c.in-Some.ensures.value).0
+returns-in-Some-clause-held c = (literal_taken signed_end signed_value _ _ _ c.args.at.now.rest.now c.in-Some.len c.in-Some.n c.requires.literal c.requires.held c.in-Some.ensures.end c.in-Some.ensures.value).0
 
 pub returns-in-Some-clause-next : goal.returns-in-Some-clause-next
 returns-in-Some-clause-next c =
     let fits : SFits w64 c.in-Some.n = search rules in
-    (literal_taken signed_end signed_value _ _ _ _ c.args.at.now.rest.now c.in-Some.len (to_z w64 (of_z w64 c.in-Some.n)) c.requires.literal c.requires.held c.in-Some.ensures.end (to_z-of_z fits ∙ c.in-Some.ensures.value)).1
+    (literal_taken signed_end signed_value _ _ _ c.args.at.now.rest.now c.in-Some.len (to_z w64 (of_z w64 c.in-Some.n)) c.requires.literal c.requires.held c.in-Some.ensures.end (to_z-of_z fits ∙ c.in-Some.ensures.value)).1

@@ -28,10 +28,10 @@ returns-in-Repeat-clause-next c =
     (opened_repeat signed_end signed_value _ _ _ (to_z w64 (of_z w64 c.in-Some.n)) c.requires.some c.in-Some.ensures.place c.requires.held c.in-Repeat.is (to_z-of_z fits ∙ c.in-Some.ensures.value c.in-Repeat.is)).1
 
 pub returns-in-Nulls-clause-held : goal.returns-in-Nulls-clause-held
-returns-in-Nulls-clause-held c = (opened_nulls signed_end signed_value _ _ _ c.args.value.now c.requires.some c.in-Some.ensures.place c.requires.held c.in-Nulls.is).0
+returns-in-Nulls-clause-held c = (opened_nulls signed_end signed_value _ _ _ c.requires.some c.in-Some.ensures.place c.requires.held c.in-Nulls.is).0
 
 pub returns-in-Nulls-clause-next : goal.returns-in-Nulls-clause-next
-returns-in-Nulls-clause-next c = (opened_nulls signed_end signed_value _ _ _ c.args.value.now c.requires.some c.in-Some.ensures.place c.requires.held c.in-Nulls.is).1
+returns-in-Nulls-clause-next c = (opened_nulls signed_end signed_value _ _ _ c.requires.some c.in-Some.ensures.place c.requires.held c.in-Nulls.is).1
 
 pub returns-in-Some-literal_number-clause-next : goal.returns-in-Some-literal_number-clause-next
 returns-in-Some-literal_number-clause-next c =
@@ -41,4 +41,4 @@ returns-in-Some-literal_number-clause-next c =
     ap signed_numbers (opened_literal signed_end _ _ _ c.requires.some c.in-Some.ensures.place c.requires.held c.in-Literal.is).1
     ∙ c.in-Some-literal_number.ensures.next
     ∙ ap (λ z. Some z ∷ signed_numbers (entries_from signed_end new.literal new.left new.rest.now)) (sym (to_z-of_z fits))
-    ∙ ap (λ l. Some (to_z w64 (of_z w64 n)) ∷ l) (sym (counted_none signed_value new.same new.nulls c.args.value.now (entries_from signed_end new.literal new.left new.rest.now) c.literal_number.ensures.same c.literal_number.ensures.nulls))
+    ∙ ap (λ l. Some (to_z w64 (of_z w64 n)) ∷ l) (sym (counted_none signed_value new.copies c.args.value.now (entries_from signed_end new.literal new.left new.rest.now) c.literal_number.ensures.copies))

@@ -25,14 +25,14 @@ pub returns-in-Repeat-clause-next : goal.returns-in-Repeat-clause-next
 returns-in-Repeat-clause-next c = (opened_repeat unsigned_end unsigned_value _ _ _ c.in-Some.n c.requires.some c.in-Some.ensures.place c.requires.held c.in-Repeat.is (c.in-Some.ensures.value c.in-Repeat.is)).1
 
 pub returns-in-Nulls-clause-held : goal.returns-in-Nulls-clause-held
-returns-in-Nulls-clause-held c = (opened_nulls unsigned_end unsigned_value _ _ _ c.args.value.now c.requires.some c.in-Some.ensures.place c.requires.held c.in-Nulls.is).0
+returns-in-Nulls-clause-held c = (opened_nulls unsigned_end unsigned_value _ _ _ c.requires.some c.in-Some.ensures.place c.requires.held c.in-Nulls.is).0
 
 pub returns-in-Nulls-clause-next : goal.returns-in-Nulls-clause-next
-returns-in-Nulls-clause-next c = (opened_nulls unsigned_end unsigned_value _ _ _ c.args.value.now c.requires.some c.in-Some.ensures.place c.requires.held c.in-Nulls.is).1
+returns-in-Nulls-clause-next c = (opened_nulls unsigned_end unsigned_value _ _ _ c.requires.some c.in-Some.ensures.place c.requires.held c.in-Nulls.is).1
 
 pub returns-in-Some-literal_number-clause-next : goal.returns-in-Some-literal_number-clause-next
 returns-in-Some-literal_number-clause-next c =
     let new = c.literal_number.new.at in
     ap unsigned_numbers (opened_literal unsigned_end _ _ _ c.requires.some c.in-Some.ensures.place c.requires.held c.in-Literal.is).1
     ∙ c.in-Some-literal_number.ensures.next
-    ∙ ap (λ l. Some c.in-Some-literal_number.n ∷ l) (sym (counted_none unsigned_value new.same new.nulls c.args.value.now (entries_from unsigned_end new.literal new.left new.rest.now) c.literal_number.ensures.same c.literal_number.ensures.nulls))
+    ∙ ap (λ l. Some c.in-Some-literal_number.n ∷ l) (sym (counted_none unsigned_value new.copies c.args.value.now (entries_from unsigned_end new.literal new.left new.rest.now) c.literal_number.ensures.copies))

@@ -9,4 +9,4 @@ use Rattle.am_runs.proofs.signed.SignedCursor.left.Goals as goal
 pub returns : goal.returns
 returns c =
     let at = c.self.inside.at in
-    sym (ap length (sym c.self.view_is) ∙ length-counted signed_value at.same at.nulls c.self.inside.value (entries_from signed_end at.literal at.left at.rest.now) ∙ ap (λ n. at.same + at.nulls + n) (length-entries _ _ _ c.self.invariant.holds))
+    sym (ap length (sym c.self.view_is) ∙ length-counted signed_value at.copies c.self.inside.value (entries_from signed_end at.literal at.left at.rest.now) ∙ ap (λ n. at.copies + n) (length-entries _ _ _ c.self.invariant.holds))

@@ -10,5 +10,5 @@ use Rattle.am_runs.proofs.signed.SignedCursor.next.Goals as goal
 pub returns-then-self-eq0-clause-end : goal.returns-then-self-eq0-clause-end
 returns-then-self-eq0-clause-end c =
     let at = c.self.inside.at in
-    let e = sym c.self.view_is ∙ counted_none signed_value at.same at.nulls c.self.inside.value (entries_from signed_end at.literal at.left at.rest.now) (omega arith) (omega arith) ∙ ap signed_numbers (entries-none signed_end _ _ (omega arith)) in
+    let e = sym c.self.view_is ∙ counted_none signed_value at.copies c.self.inside.value (entries_from signed_end at.literal at.left at.rest.now) (omega arith) ∙ ap signed_numbers (entries-none signed_end _ _ (omega arith)) in
     (e, e)

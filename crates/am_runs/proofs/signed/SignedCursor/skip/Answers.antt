@@ -3,21 +3,16 @@ use Rattle.am_leb.specs.Leb.{signed_value}
 use Rattle.am_runs.specs.Items.{signed_end}
 use Rattle.am_runs.specs.Typed.{signed_numbers}
 use Rattle.am_runs.specs.Counters.{entries_from}
-use Rattle.am_runs.proofs.Counted.{drop_same, drop_nulls, drop_more}
+use Rattle.am_runs.proofs.Counted.{drop_copies, drop_more}
 use Rattle.am_runs.proofs.signed.SignedCursor.skip.Goals as goal
 
 pub returns-then-n-self : goal.returns-then-n-self
 returns-then-n-self c =
     let at = c.self.inside.at in
-    drop_same signed_value c.args.n at.same at.nulls c.self.inside.value (entries_from signed_end at.literal at.left at.rest.now) (omega arith) ∙ ap (drop c.args.n) c.self.view_is
-
-pub returns-then-n-self-2 : goal.returns-then-n-self-2
-returns-then-n-self-2 c =
-    let at = c.self.inside.at in
-    drop_nulls signed_value c.args.n at.same at.nulls c.self.inside.value (entries_from signed_end at.literal at.left at.rest.now) (omega arith) (omega arith) ∙ ap (drop c.args.n) c.self.view_is
+    drop_copies signed_value c.args.n at.copies c.self.inside.value (entries_from signed_end at.literal at.left at.rest.now) (omega arith) ∙ ap (drop c.args.n) c.self.view_is
 
 pub returns : goal.returns
 returns c =
     let at = c.self.inside.at in
-    c.self-2.view_is ∙ c.numbers_of.ensures ∙ ap signed_numbers c.skip.ensures ∙ ap (λ l. signed_numbers (drop (c.args.n - at.same - at.nulls) l)) c.runs_from-runs.ensures
-    ∙ drop_more signed_value c.args.n at.same at.nulls c.self.inside.value (entries_from signed_end at.literal at.left at.rest.now) (omega arith) (omega arith) ∙ ap (drop c.args.n) c.self.view_is
+    c.self-2.view_is ∙ c.numbers_of.ensures ∙ ap signed_numbers c.skip.ensures ∙ ap (λ l. signed_numbers (drop (c.args.n - at.copies) l)) c.runs_from-runs.ensures
+    ∙ drop_more signed_value c.args.n at.copies c.self.inside.value (entries_from signed_end at.literal at.left at.rest.now) (omega arith) ∙ ap (drop c.args.n) c.self.view_is

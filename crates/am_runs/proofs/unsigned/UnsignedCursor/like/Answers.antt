@@ -15,5 +15,5 @@ returns-in-Some-clause-like c =
     let l = c.in-Some.ensures.like in
     let at = c.self.inside.at in
     let runs = c.runs_from.result in
-    let bare = sym c.self.view_is ∙ counted_none unsigned_value at.same at.nulls c.self.inside.value (entries_from unsigned_end at.literal at.left at.rest.now) (omega arith) (omega arith) ∙ ap unsigned_numbers (sym c.runs_from.ensures) in
+    let bare = sym c.self.view_is ∙ counted_none unsigned_value at.copies c.self.inside.value (entries_from unsigned_end at.literal at.left at.rest.now) (omega arith) ∙ ap unsigned_numbers (sym c.runs_from.ensures) in
     (l.0, omega (arith, l.1, ap length bare, length-map runs (option_map unsigned_value)), ap (take k) bare ∙ like_mapped (option_map unsigned_value) runs k (option_copied c.in-Some.entry) _ c.number_of.ensures l.2)
