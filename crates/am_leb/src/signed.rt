@@ -48,6 +48,7 @@ fn is_negative(spelling: &[u8]) -> bool
     spelling[spelling.len() - 1] >= 64
 }
 
+// The number that stands first, of any length, or the fault.
 fn signed_number_at(bytes: &[u8]) -> Result<(i64, usize), LebFault>
     ensures { result ≡ first_signed bytes.now }
 {

@@ -35,7 +35,7 @@ pub struct Spelling {
     pub len: usize,
 }
 
-// The spelling that begins the bytes, if it has two.
+// The spelling that begins the bytes, if it has two bytes. It may give up.
 #[inline(always)]
 fn two_bytes_at(bytes: &[u8]) -> Option<Spelling>
     ensures { IfSome result (λ s. Spelled bytes.now s.len s.value s.bound) }
@@ -55,7 +55,7 @@ fn two_bytes_at(bytes: &[u8]) -> Option<Spelling>
     })
 }
 
-// The spelling that begins the bytes, if it ends within nine.
+// The spelling that begins the bytes, if it has at most nine bytes. It may give up.
 #[inline(always)]
 pub fn spelling_at(bytes: &[u8]) -> Option<Spelling>
     ensures { IfSome result (λ s. Spelled bytes.now s.len s.value s.bound) }

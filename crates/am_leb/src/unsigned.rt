@@ -30,6 +30,7 @@ fn unsigned_len(n: u64) -> usize
     len
 }
 
+// The number that stands first, of any length, or the fault.
 fn number_at(bytes: &[u8]) -> Result<(u64, usize), LebFault>
     ensures { result ≡ first_unsigned bytes.now }
 {

@@ -23,6 +23,7 @@ pub struct Position<'a> {
     pub rest: &'a [u8],
 }
 
+/// The run of nulls whose count begins the bytes.
 #[inline(always)]
 pub fn open_null_run<'a>(bytes: &'a [u8]) -> Option<Position<'a>>
     ensures { option_map (λ p. record { kind = p.kind; count = p.count; item = p.item.now; rest = p.rest.now }) result ≡ open_nulls bytes.now (first_unsigned bytes.now) }

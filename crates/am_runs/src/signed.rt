@@ -54,7 +54,7 @@ fn literal_number<'a>(at: &mut Counters<'a>) -> Option<i64>
     }
 }
 
-// Opens the run behind, and takes its first number.
+// Opens the run behind, and takes its first entry.
 #[inline(always)]
 fn opened<'a>(at: &mut Counters<'a>, value: &mut Option<i64>) -> Option<Option<i64>>
     requires held { IsCounted signed_end 0 0 at.old.left at.old.rest.now }

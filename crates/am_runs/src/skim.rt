@@ -15,7 +15,7 @@ fn are_single(count: u64, bytes: &[u8]) -> bool
     bytes[..count as usize].is_ascii()
 }
 
-// How many bytes the first numbers take. It gives up at one of more than nine bytes, and at one that isn't the shortest.
+// How many bytes the first numbers take. It gives up at one of more than nine bytes, at one that has a shorter spelling, and where the bytes end. Nothing branches on where a number ends, since that can't be foreseen.
 #[inline(always)]
 fn unsigned_length(count: u64, bytes: &[u8]) -> Option<usize>
     requires { 0 < count }
@@ -59,7 +59,7 @@ pub fn skim_unsigned<'a>(count: u64, bytes: &'a [u8]) -> Option<&'a [u8]>
     }
 }
 
-// The same for signed numbers. The sign is the bit 64 of the last byte, so a last byte of 0 or 127 is one too many where the byte before it has that sign already.
+// The same for signed numbers. Bit 6 of the last byte is the sign, so a last byte of 0 or 127 is one too many where bit 6 of the byte before it tells the sign already.
 #[inline(always)]
 fn signed_length(count: u64, bytes: &[u8]) -> Option<usize>
     requires { 0 < count }

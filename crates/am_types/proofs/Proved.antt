@@ -18,7 +18,7 @@ use Rattle.am_types.proofs.Ancestry.{ancestors_named, ancestors_closed, ancestor
 use Rattle.am_types.proofs.Growth.{among_at, found_among, ancestors_stay}
 use Rattle.am_types.proofs.VerdictLaws.{fits_by, fits_from, answers_first}
 use Rattle.am_types.proofs.FirstBad.{finds_first_bad}
-use Rattle.am_types.proofs.References.{stands}
+use Rattle.am_types.proofs.References.{refers, stands}
 use Rattle.am_types.proofs.Following.{follow_references}
 use Rattle.am_types.proofs.SettleLaws.{settle_settles, settle_idle, settle_taken}
 use Rattle.am_types.proofs.Listings.{settle_sound}
@@ -90,7 +90,10 @@ pub ids_are_distinct : law.IdsAreDistinct
 ids_are_distinct = distinct_ids_valid
 
 pub references_are_there : law.ReferencesAreThere
-references_are_there C v x c t = stands C (grounds_valid C v) x c t x.op.key refl
+references_are_there C v x c = record {
+  element = refers C (grounds_valid C v) x c;
+  insertion = λ t. stands C (grounds_valid C v) x c t x.op.key refl;
+}
 
 pub elements_follow_references : law.ElementsFollowReferences
 elements_follow_references = follow_references

@@ -19,8 +19,8 @@ row id op succs = record { obj = op.obj; key = op.key; id = id; insert = op.inse
 
 -- ---- a key that was set twice
 
-abbrev two_sets : Table
-two_sets = record {
+abbrev key_set_twice : Table
+key_set_twice = record {
   actors = aa ∷ [];
   heads = h_a2 ∷ [];
   metas = meta aa 1 1 [] ∷ meta aa 2 2 (0 ∷ []) ∷ [];
@@ -31,12 +31,12 @@ two_sets = record {
   suffix = Some (1 ∷ []);
 }
 
-table_of_sets : table (a1 ∷ a2 ∷ []) ≡ two_sets
+table_of_sets : table (a1 ∷ a2 ∷ []) ≡ key_set_twice
 unfolding table order depth rows elements
 table_of_sets = refl
 
 -- however the set is listed
-table_of_sets_too : table (a2 ∷ a1 ∷ []) ≡ two_sets
+table_of_sets_too : table (a2 ∷ a1 ∷ []) ≡ key_set_twice
 unfolding table order depth rows elements
 table_of_sets_too = refl
 

@@ -1,5 +1,5 @@
--- Entries that stand in the order of a document, as far as it can be seen without the elements: a test on lists, which
--- computes.
+-- Entries that stand in the order of a document as far as a text needs it: a test on lists, which computes. In which
+-- order the slots of an object come is left open.
 --     shares_slot e f       e and f stand in one slot of one object
 --     is_in_order es        the root's entries come first, then those of the objects by ascending id; the entries of one slot
 --                           stand together, by ascending id

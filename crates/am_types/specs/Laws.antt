@@ -127,7 +127,7 @@ ValidSetsKeepRules = (C : List Member) → Valid C → KeepsRules C
 abbrev pub IdsAreDistinct : Type 0
 IdsAreDistinct = (C : List Member) → Valid C → DistinctIds (all_operations (changes C))
 
--- r is the id of an insertion among A into the object of x, and lies below that of x
+-- r is the id of an insertion among A into the object of x, and is less than the id of x
 pub record IsReference (A : List Operation) (x : Operation) (r : OpId) : Type 0 where
   pub insertion : Operation
   pub is_among : Contains A insertion
@@ -135,16 +135,22 @@ pub record IsReference (A : List Operation) (x : Operation) (r : OpId) : Type 0 
   pub inserts : IsTrue (inserts_into x.op.obj insertion)
   pub lower : id_cmp r x.id ≡ Less
 
--- the reference of an insertion x with such a key is there: the front, or such an element
+-- what an insertion x with such a key names as its reference is there: the front, or such an element
 abbrev pub ReferenceIsThere : List Operation → Operation → Key → Type 0
 ReferenceIsThere A x Head = ⊤
 ReferenceIsThere A x (Elem r) = IsReference A x r
 ReferenceIsThere A x (Name n) = ⊥
 
--- in a valid set each insertion stands at the front of its object, or behind an earlier insertion into it
+-- An element that x names is that of an earlier insertion into its object. An insertion names the front or such an element,
+-- and never a name.
+pub record NamesWhatIsThere (A : List Operation) (x : Operation) : Type 0 where
+  pub element : (r : OpId) → x.op.key ≡ Elem r → IsReference A x r
+  pub insertion : IsTrue x.op.insert → ReferenceIsThere A x x.op.key
+
+-- in a valid set the elements that operations name are there
 abbrev pub ReferencesAreThere : Type 0
-ReferencesAreThere = (C : List Member) → Valid C → (x : Operation) → Contains (all_operations (changes C)) x → IsTrue x.op.insert
-    → ReferenceIsThere (all_operations (changes C)) x x.op.key
+ReferencesAreThere = (C : List Member) → Valid C → (x : Operation) → Contains (all_operations (changes C)) x
+    → NamesWhatIsThere (all_operations (changes C)) x
 
 -- the elements of o are the ids of the insertions into it, and each stands behind what its insertion names
 pub record FollowReferences (A : List Operation) (o : ObjId) : Type 0 where

@@ -65,7 +65,8 @@ pub fn ids_are_distinct()
     ensures { IdsAreDistinct }
 {}
 
-/// In a valid set each insertion stands at the front of its object, or behind an insertion of lesser id into it.
+/// In a valid set an element that an operation names is that of an insertion of lesser id into the same object. An
+/// insertion names the front or such an element.
 pub fn references_are_there()
     ensures { ReferencesAreThere }
 {}

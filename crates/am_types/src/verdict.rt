@@ -43,9 +43,9 @@ pub enum Why {
     SeqGap,
     /// This dependency, the least such, ends at the change's start or above.
     StartLow(Hash),
-    /// The operation at this place, from 0, names what is not there.
+    /// The operation at this place, from 0, the first such, names what is not there.
     BadReference(u64),
-    /// This limit would be passed.
+    /// This limit, the first such, would be passed.
     Full(Limit),
 }
 
