@@ -3,7 +3,6 @@ pub mod Lookups
 pub mod Entering
 pub mod OwnOperations
 pub mod KnownBy
-pub mod FirstBad
 pub mod Telling
 pub mod SeqLaws
 pub mod Sums

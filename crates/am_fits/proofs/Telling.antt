@@ -1,7 +1,9 @@
 -- What the clock and the facts tell is what the definition of good references asks.
-use Rattle.std.proofs.Common.{ℕ, ◌≡◌, ◌<◌, ◌==◌, List, [], ◌∷◌, ◌++◌, length, get_or, take, Bool, true, false, not, ◌&&◌, ◌||◌, Some, None, refl, ap, ◌∙◌, arith}
-use Rattle.std.specs.List.{list_any, list_all}
+use Rattle.std.proofs.Common.{ℕ, ◌≡◌, ◌<◌, ◌==◌, List, [], ◌∷◌, ◌++◌, length, get_or, take, Bool, true, false, not, ◌&&◌, ◌||◌, Some, None, refl, sym, ap, ◌∙◌, inl, inr, arith}
+use Rattle.std.specs.List.{list_any, list_all, slice_get}
+use Rattle.std.specs.Option.{option_map_or}
 use Rattle.std.proofs.lemmas.List.Folds.{list_any-append}
+use Rattle.std.proofs.lemmas.Option.{slice_get_cases, slice_get_within, get_or_from_slice_get}
 use Rattle.am_types.specs.declared.OpId.{OpId}
 use Rattle.am_types.specs.declared.ObjId.{ObjId}
 use Rattle.am_types.specs.declared.ObjId.TheVariants.{Root, Made}
@@ -9,19 +11,20 @@ use Rattle.am_types.specs.declared.Key.{Key}
 use Rattle.am_types.specs.declared.Key.TheVariants.{Name, Head, Elem}
 use Rattle.am_types.specs.declared.Change.{Change}
 use Rattle.am_types.specs.Actions as actions
+use Rattle.am_types.specs.Laws.{bad_at}
 use Rattle.am_types.specs.Members.{Member, changes}
 use Rattle.am_types.specs.Ancestors.{ancestors}
 use Rattle.am_types.specs.Operations.{Operation, operations, all_operations, slot}
 use Rattle.am_types.specs.References.{has_good_references, object_takes, element_known, pred_known, first_bad}
 use Rattle.am_types.specs.Same.{same_id, same_object, same_key}
+use Rattle.am_types.proofs.FirstBad.{finds_first_bad}
 use Rattle.am_types.proofs.Listed.{Facts}
 use Rattle.am_graph.specs.declared.reach.Reach.{Reach}
 use Rattle.am_graph.specs.Clocks.{covers, IsClockOf}
 use Rattle.am_fits.specs.Facts.{Fact, fact_of, facts_of}
-use Rattle.am_fits.specs.Told.{Telling, object_by, element_by, good_by, inserts, gives_to, told, own, IsGoodAt, IsFirstBad}
+use Rattle.am_fits.specs.Told.{Telling, object_by, element_by, good_by, inserts, gives_to, told, own, IsGoodAt, IsBadAt, IsFirstBad}
 use Rattle.am_fits.proofs.KnownBy.{known_by}
 use Rattle.am_fits.proofs.OwnOperations.{any_own, own_get, length-operations}
-use Rattle.am_fits.proofs.FirstBad.{first_bad_found, first_bad_none}
 
 -- ---- by the operations themselves
 
@@ -92,13 +95,28 @@ module _ (C : List Member) (is : Facts C) (c : Change) (clock : List (List ℕ �
   at_is : (k : ℕ) (d : Operation) → k < length c.ops → has_good_references (known ++ take k (operations c)) (get_or (operations c) k d) ≡ good_by (told clock fs c k) (own c k (get_or c.ops k d.op))
   at_is k d l = ap (has_good_references (known ++ take k (operations c))) (own_get c k d d.op l) ∙ good_is k (own c k (get_or c.ops k d.op))
 
-  pub bad_found : (k : ℕ) → IsFirstBad clock fs c k → first_bad known (operations c) ≡ Some k
-  bad_found k b =
+  bad_is : (k : ℕ) (x : Operation) → slice_get (operations c) k ≡ Some x → bad_at known (operations c) k ≡ not (good_by (told clock fs c k) (own c k (get_or c.ops k x.op)))
+  bad_is k x is =
       let size = length-operations c in
-      let l : k < length c.ops = b.within in
-      first_bad_found known (operations c) k (omega arith) (λ j m d. at_is j d (omega arith) ∙ b.before j m d.op) (λ d. at_is k d l ∙ b.bad d.op)
+      let within : k < length (operations c) = slice_get_within (operations c) k x is in
+      ap (λ o. option_map_or (λ y. not (has_good_references (known ++ take k (operations c)) y)) o false) is
+      ∙ ap (λ y. not (has_good_references (known ++ take k (operations c)) y)) (sym (get_or_from_slice_get (operations c) k x x is))
+      ∙ ap not (at_is k x (omega arith))
+
+  is_bad : (k : ℕ) → k < length c.ops → IsBadAt clock fs c k → bad_at known (operations c) k ≡ true
+  is_bad k l bad = let size = length-operations c in elim (slice_get_cases (operations c) k).1 [
+    | inl x ↦ bad_is k x.0 x.2 ∙ ap not (bad x.0.op)
+    | inr past ↦ absurd (omega (arith, past.0))
+  ]
+
+  is_good : (k : ℕ) → (k < length c.ops → IsGoodAt clock fs c k) → bad_at known (operations c) k ≡ false
+  is_good k good = let size = length-operations c in elim (slice_get_cases (operations c) k).1 [
+    | inl x ↦ bad_is k x.0 x.2 ∙ ap not (good (omega (arith, x.1)) x.0.op)
+    | inr past ↦ ap (λ o. option_map_or (λ y. not (has_good_references (known ++ take k (operations c)) y)) o false) past.1
+  ]
+
+  pub bad_found : (k : ℕ) → IsFirstBad clock fs c k → first_bad known (operations c) ≡ Some k
+  bad_found k b = ((finds_first_bad known (operations c)).some k).1 (record { bad = is_bad k b.within b.bad; before = λ j m. is_good j (λ l. b.before j m) })
 
   pub bad_none : ((k : ℕ) → k < length c.ops → IsGoodAt clock fs c k) → first_bad known (operations c) ≡ None
-  bad_none good =
-      let size = length-operations c in
-      first_bad_none known (operations c) (λ j m d. let l : j < length c.ops = omega arith in at_is j d l ∙ good j l d.op)
+  bad_none good = (finds_first_bad known (operations c)).none.1 (λ k. is_good k (good k))

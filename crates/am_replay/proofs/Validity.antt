@@ -1,19 +1,17 @@
 -- The operations of a valid set, in ascending id, can be read.
-use Rattle.std.proofs.Common.{ℕ, suc, ◌≡◌, ◌≢◌, ◌<◌, ◌≤◌, ◌+◌, ◌-◌, ◌^◌, ◌&&◌, nat_lt, List, [], ◌∷◌, length, get_or, take, filter, sum_by, Bool, true, false, Option, Some, None, refl, sym, ap, ◌∙◌, subst, Contains, All, inl, inr, arith}
+use Rattle.std.proofs.Common.{ℕ, suc, ◌≡◌, ◌≢◌, ◌<◌, ◌≤◌, ◌+◌, ◌-◌, ◌^◌, nat_lt, List, [], ◌∷◌, length, get_or, take, filter, sum_by, Bool, true, false, Option, Some, None, refl, sym, ap, ◌∙◌, subst, Contains, All, inl, inr, arith}
 use Rattle.std.specs.Bool.{then_some}
 use Rattle.std.specs.List.{AllByRecursion}
 use Rattle.std.specs.Option.{option_or}
-use Rattle.std.specs.Cmp.{nat_cmp_is}
-use Rattle.std.specs.Ordering.{is_gt, nat_cmp, ordering_reverse}
+use Rattle.std.specs.Ordering.{is_gt, ordering_reverse}
 use Rattle.std.specs.declared.cmp.Ordering.{Ordering}
 use Rattle.std.specs.declared.cmp.Ordering.TheVariants.{Less, Equal, Greater}
-use Rattle.std.proofs.lemmas.Bool.{cases_Bool, cases_order, both_ways, and_parts, and_from, ltb-false}
+use Rattle.std.proofs.lemmas.Bool.{cases_Bool, cases_order, both_ways, and_parts, ltb-false}
 use Rattle.std.proofs.lemmas.Cmp.{tied_itself}
 use Rattle.std.proofs.lemmas.List.{get_or-take, get_or_default, length-take-le}
 use Rattle.std.proofs.lemmas.List.Concat.{length-flat_map}
 use Rattle.std.proofs.lemmas.List.Sums.{sum_by-cons}
-use Rattle.std.proofs.lemmas.List.Folds.{Any-from_list_any}
-use Rattle.std.proofs.lemmas.List.Elements.{recursion_from_All, All-get_or, All-map, Contains-get_or, Contains-append_left, Contains-append_right}
+use Rattle.std.proofs.lemmas.List.Elements.{recursion_from_All, All-map, Contains-get_or}
 use Rattle.std.proofs.lemmas.List.Sorted.{All-permutation, Contains-permutation, IsPermutation-sym, length_permutation}
 use Rattle.am_types.specs.declared.OpId.{OpId}
 use Rattle.am_types.specs.declared.ObjId.{ObjId}
@@ -23,23 +21,20 @@ use Rattle.am_types.specs.declared.Op.{Op}
 use Rattle.am_types.specs.declared.Change.{Change}
 use Rattle.am_types.specs.declared.Limit.{Limit}
 use Rattle.am_types.specs.Elements.{inserts_into}
-use Rattle.am_types.specs.Fine.{FineOp, GoodNumbers, IsListPlace}
+use Rattle.am_types.specs.Fine.{GoodNumbers, IsListPlace}
 use Rattle.am_types.specs.Members.{Member, changes}
-use Rattle.am_types.specs.Ancestors.{ancestors}
 use Rattle.am_types.specs.Operations.{Operation, numbered, operations, all_operations, operation_cmp, ascending, DistinctIds}
 use Rattle.am_types.specs.Order.{id_cmp, put_in_order, Ascends}
-use Rattle.am_types.specs.References.{element_known}
 use Rattle.am_types.specs.Same.{same_id, same_object}
 use Rattle.am_types.specs.ValidSets.{Valid, IsValidSet}
 use Rattle.am_types.specs.Verdicts.{above, limit_passed}
 use Rattle.am_types.proofs.Ancestry.{Contains-filter, Contains-from_filter}
-use Rattle.am_types.proofs.DistinctIds.{ancestor_is_member, numbered_at, operation_of}
 use Rattle.am_types.proofs.DistinctOperations.{distinct_ids_valid}
-use Rattle.am_types.proofs.Grounds.{Grounds, placed}
+use Rattle.am_types.proofs.Grounds.{Grounds}
 use Rattle.am_types.proofs.Lists.{all_of}
-use Rattle.am_types.proofs.Orders.{id_total, id_exact, same_id-true}
+use Rattle.am_types.proofs.Orders.{id_total, id_exact}
+use Rattle.am_types.proofs.References.{fine_op, refers}
 use Rattle.am_types.proofs.Rules.{keeps_rules}
-use Rattle.am_types.proofs.SameMembers.{Contains-cons_cases}
 use Rattle.am_types.proofs.Sorting.{IsPermutation-sorted_by}
 use Rattle.am_types.proofs.ValidSetLaws.{grounds_valid}
 use Rattle.am_replay.specs.Line.{is_insertion, AreAnchored, IsAnchoredIn}
@@ -146,22 +141,6 @@ ascends_distinct (p ∷ ps) a = (none_same p ps (all_less p ps a), ascends_disti
 
 -- ---- what the operations of a valid set refer to
 
-operation_in : (C : List Member) (m : Member) (x : Operation) → Contains C m → Contains (operations m.change) x → Contains (all_operations (changes C)) x
-operation_in [] m x cm cx = absurd (omega (arith, cm.1))
-operation_in (n ∷ C) m x cm cx =
-    let again : Contains C m → Contains (all_operations (changes C)) x = λ c. operation_in C m x c cx in
-    elim (Contains-cons_cases n C m cm) [
-      | inl e ↦ Contains-append_left (operations n.change) (all_operations (changes C)) x (subst (λ (k : Member). Contains (operations k.change) x) (sym e) cx)
-      | inr t ↦ Contains-append_right (operations n.change) (all_operations (changes C)) x (again t)
-    ]
-
--- an element that x names: its insertion into the same object, with a lesser id
-abbrev Refers : List Operation → Operation → OpId → Type 0
-Refers A x r = (y : Operation) × Contains A y × (y.id ≡ r) × (inserts_into x.op.obj y ≡ true) × (id_cmp y.id x.id ≡ Less)
-
-less_counter : (i j : OpId) → i.counter < j.counter → id_cmp i j ≡ Less
-less_counter i j l = let e : Less ≡ nat_cmp i.counter j.counter = nat_cmp_is i.counter j.counter Less l in simp (← e) refl
-
 less_not_equal : {r : Ordering} → r ≡ Less → r ≡ Equal → ⊥
 less_not_equal a b = cc
 
@@ -174,34 +153,6 @@ module _ (C : List Member) (v : Valid C) where
 
   abbrev A : List Operation
   A = all_operations (changes C)
-
-  refers : (x : Operation) → Contains A x → (r : OpId) → x.op.key ≡ Elem r → Refers A x r
-  refers x c r e =
-      let p = placed C g x c in
-      let known : element_known p.before.seen x.op.obj (Elem r) ≡ true = ap (element_known p.before.seen x.op.obj) (sym e) ∙ (and_parts _ _ (and_parts _ _ p.before.good).0).1 in
-      let test : Operation → Bool = λ y. same_id y.id r && y.op.insert && same_object y.op.obj x.op.obj in
-      let a = Any-from_list_any test p.before.seen known in
-      let y = a.1 in
-      let parts = and_parts (same_id y.id r && y.op.insert) (same_object y.op.obj x.op.obj) a.4 in
-      let first = and_parts (same_id y.id r) y.op.insert parts.0 in
-      let from = p.before.from y (a.0, a.2, a.3) in (
-        y,
-        elim from.0 [
-          | inl k ↦ let o = operation_of (ancestors C p.of.change.deps) y k in operation_in C o.0 y (ancestor_is_member C p.of.change.deps o.0 o.1) o.2
-          | inr o ↦ operation_in C p.of y p.is_member o
-        ],
-        same_id-true y.id r first.0,
-        and_from _ _ first.1 parts.1,
-        less_counter y.id x.id from.1,
-      )
-
-  fine_op : (x : Operation) → Contains A x → FineOp x.op
-  fine_op x c =
-      let o = operation_of C x c in
-      let m = o.0 in
-      let place = o.2 in
-      let at = numbered_at m.change.start m.change.actor m.change.ops x place.0 place.1 place.2 in
-      subst FineOp (sym (ap (λ (z : Operation). z.op) at.1.1)) (All-get_or FineOp m.change.ops at.0 x.op at.1.0 (g.fine m o.1).ops)
 
   -- ---- in ascending id
 
@@ -250,11 +201,12 @@ module _ (C : List Member) (v : Valid C) where
 
       go : (k : Key) → x.op.key ≡ k → IsAnchoredIn (take i E) k
       go Head e = tt
-      go (Name n) e = subst IsListPlace e ((fine_op x (from_S x in_S.0)).insertion in_S.1).place
+      go (Name n) e = subst IsListPlace e ((fine_op C g x (from_S x in_S.0)).insertion in_S.1).place
       go (Elem r) e =
-          let f = refers x (from_S x in_S.0) r e in
-          let y = f.0 in
-          (y, stands_before i d y l (Contains-filter is_insertion S y (to_S y f.1) (inserted x.op.obj y f.3)) f.4, f.2)
+          let f = refers C g x (from_S x in_S.0) r e in
+          let y = f.insertion in
+          let less : id_cmp y.id x.id ≡ Less = subst (λ i. id_cmp i x.id ≡ Less) (sym f.has_id) f.lower in
+          (y, stands_before i d y l (Contains-filter is_insertion S y (to_S y f.is_among) (inserted x.op.obj y f.inserts)) less, f.has_id)
 
   pub sound_operations : Sound S
   sound_operations = record {
@@ -265,9 +217,9 @@ module _ (C : List Member) (v : Valid C) where
         let sums = same_sum (changes C) in
         let kept = length_permutation A S (IsPermutation-sorted_by operation_cmp A) in
         omega arith;
-    distinct = λ x c. ascends_distinct x.op.preds (fine_op x (from_S x c)).preds_ascend;
+    distinct = λ x c. ascends_distinct x.op.preds (fine_op C g x (from_S x c)).preds_ascend;
     anchored = anchored;
-    known = λ x c r e. let f = refers x (from_S x c) r e in (f.0, to_S f.0 f.1, f.2, f.3);
+    known = λ x c r e. let f = refers C g x (from_S x c) r e in (f.insertion, to_S f.insertion f.is_among, f.has_id, f.inserts);
   }
 
 pub sound_set : (cs : List Change) → IsValidSet cs → Sound (ascending (all_operations cs))
