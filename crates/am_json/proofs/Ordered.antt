@@ -9,7 +9,8 @@ use Rattle.am_types.specs.declared.Entry.{Entry}
 use Rattle.am_types.specs.Order.{id_cmp, object_cmp}
 use Rattle.am_types.specs.Same.{same_object, same_key}
 use Rattle.am_types.proofs.SameLaws.{same_object-true}
-use Rattle.am_json.specs.Entries.{is_in, shares_slot, may_precede, is_followed, goes_before, is_in_order}
+use Rattle.am_types.specs.EntryOrder.{shares_slot, may_precede, is_followed, goes_before, is_in_order}
+use Rattle.am_json.specs.Entries.{is_in}
 use Rattle.am_json.specs.Steps.{goes_on}
 use Rattle.am_json.proofs.Searched.{IsByObjects}
 use Rattle.am_json.proofs.SlotRuns.{rises, is_far, comes_before, is_by_slots, and_first, and_second, and_both, or_weaker}

@@ -115,7 +115,8 @@ name_of (Name name) = name
 name_of Head = []
 name_of (Elem e) = []
 
--- what an element adds to a string: its text, or U+FFFC (object replacement character) for what is no text
+-- what an element adds to a string: the text that it sets, or U+FFFC (object replacement character) where it sets none or
+-- one that isn't good
 abbrev pub piece : Entry → List ℕ
 piece e = if e.action == actions.set then unwrap_or (text_of e.value) (239 ∷ 191 ∷ 188 ∷ []) else 239 ∷ 191 ∷ 188 ∷ []
 

@@ -2,7 +2,8 @@
 ghost use Rattle.std.specs.Prelude.{◌≡◌, IfOk, map, filter};
 ghost use Rattle.am_types.specs.Same.{same_id, same_key};
 ghost use Rattle.am_types.specs.Views.{id_of, key_of, object_of};
-ghost use Rattle.am_json.specs.Entries.{slots, is_in, IsInOrder};
+ghost use Rattle.am_types.specs.EntryOrder.{IsInOrder};
+ghost use Rattle.am_json.specs.Entries.{slots, is_in};
 ghost use Rattle.am_json.specs.Steps.{runs, goes_on, slot_of};
 
 use crate::blocks::entries_of;

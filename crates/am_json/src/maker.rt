@@ -3,7 +3,7 @@ ghost use Rattle.std.specs.Prelude.{◌≡◌, ◌<◌, ◌≤◌, ◌++◌, ◌
 ghost use Rattle.serde_json.specs.Data.{depth};
 ghost use Rattle.serde_json.specs.Written.{compact_text};
 ghost use Rattle.am_types.specs.Views.{entry_of};
-ghost use Rattle.am_json.specs.Entries.{IsInOrder};
+ghost use Rattle.am_types.specs.EntryOrder.{IsInOrder};
 ghost use Rattle.am_json.specs.Shown.{json_data};
 
 use crate::fault::JsonFault;
@@ -26,7 +26,7 @@ pub struct JsonMaker {
 
 impl Model for JsonMaker {
     ghost use Rattle.am_json.specs.Held.{Held};
-    ghost use Rattle.am_json.specs.Entries.{IsInOrder};
+    ghost use Rattle.am_types.specs.EntryOrder.{IsInOrder};
 
     ghost Value = { Held };
 
@@ -64,8 +64,9 @@ impl JsonMaker {
         Ok(())
     }
 
-    /// The text: the compact JSON (RFC 8259) of what the entries show, unless it nests deeper than 127. Its time grows with
-    /// the number of entries and its logarithm, if no two entries have one id.
+    /// The text: the compact JSON (RFC 8259) of what the entries show. It is refused where it nests deeper than 127, and
+    /// want of memory that was answered before is answered again. If no two entries have one id, its time grows with their
+    /// bytes and the logarithm of their number.
     pub fn finish(self, alloc: Global) -> Result<Bytes, JsonFault>
         ensures text { IfOk result (λ text. text ≡ compact_text (json_data self.form self.entries)) }
         ensures fits { IfOk result (λ _. depth (json_data self.form self.entries) ≤ 127) }

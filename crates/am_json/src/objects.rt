@@ -3,7 +3,7 @@ ghost use Rattle.std.specs.Prelude.{◌≡◌, IfOk, flat_map, map, fold};
 ghost use Rattle.serde_json.specs.Data.{string, array, object, no_members};
 ghost use Rattle.serde_json.specs.View.{view, items_of};
 ghost use Rattle.am_types.specs.Views.{key_of, object_of as object_in};
-ghost use Rattle.am_json.specs.Entries.{IsInOrder};
+ghost use Rattle.am_types.specs.EntryOrder.{IsInOrder};
 ghost use Rattle.am_json.specs.Shown.{object_within as data_within, shown_by, slot_data, pair, name_of, piece, with_slot, is_string, is_array};
 ghost use Rattle.am_json.specs.Steps.{inside, slot_of};
 

@@ -1,7 +1,7 @@
 //! Outside texts: of all kinds of values and objects in both forms, of deep nesting, and of strings.
 ghost use Rattle.std.specs.Prelude.{◌≡◌, not};
 ghost use Rattle.std.specs.List.{list_all};
-ghost use Rattle.am_json.specs.Entries.{may_precede as may_come, shares_slot, goes_before as goes, is_followed as follows, is_in_order, IsInOrder};
+ghost use Rattle.am_types.specs.EntryOrder.{may_precede as may_come, shares_slot, goes_before as goes, is_followed as follows, is_in_order, IsInOrder};
 
 use crate::blocks::compare_objects;
 use crate::groups::is_same_key;

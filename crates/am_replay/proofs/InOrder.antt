@@ -20,6 +20,7 @@ use Rattle.am_types.specs.declared.Entry.{Entry}
 use Rattle.am_types.specs.declared.Key.{Key}
 use Rattle.am_types.specs.declared.Key.TheVariants.{Name, Head, Elem}
 use Rattle.am_types.specs.Elements.{put_after, put_at}
+use Rattle.am_types.specs.EntryOrder.{shares_slot, may_precede, goes_before, is_in_order}
 use Rattle.am_types.specs.Operations.{Operation, slot, all_operations, ascending}
 use Rattle.am_types.specs.Order.{bytes_cmp, id_cmp, object_cmp, sorted_by}
 use Rattle.am_types.specs.Places.{Place, place_cmp, slot_cmp}
@@ -31,7 +32,7 @@ use Rattle.am_types.proofs.Orders.{id_total, same_id-true, same_id_itself}
 use Rattle.am_types.proofs.SameLaws.{same_key-true}
 use Rattle.am_types.proofs.SameMembers.{Contains-cons_cases}
 use Rattle.am_types.proofs.Sorting.{IsPermutation-sorted_by}
-use Rattle.am_replay.specs.Laws.{shares_slot, may_precede, goes_before, is_in_order, EntriesAreInOrder}
+use Rattle.am_replay.specs.Laws.{EntriesAreInOrder}
 use Rattle.am_replay.specs.Line.{put, is_insertion, line, elements_in, AreAnchored, IsAnchoredIn}
 use Rattle.am_replay.specs.Placed.{Rank, rank_cmp, key_rank, entries_in}
 use Rattle.am_replay.specs.Rising.{Rise, IsBelow}
