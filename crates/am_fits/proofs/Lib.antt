@@ -11,3 +11,4 @@ pub mod Outcomes
 pub mod Fresh
 pub mod Adding
 pub mod Firsts
+pub mod TestSets
