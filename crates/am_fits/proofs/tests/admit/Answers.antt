@@ -1,5 +1,5 @@
-use Rattle.std.proofs.Common.{◌≡◌, [], ◌∙◌, ap}
-use Rattle.am_fits.specs.Samples.{first, sample}
+use Rattle.std.proofs.Common.{[], ◌∙◌, ap}
+use Rattle.am_fits.specs.Samples.{sample}
 use Rattle.am_fits.proofs.TestSets.{may_admit}
 use Rattle.am_fits.proofs.tests.admit.Goals as goal
 
