@@ -10,3 +10,4 @@ pub mod Outcomes
 pub mod Fresh
 pub mod Adding
 pub mod Firsts
+pub mod TestSets

@@ -4,3 +4,4 @@ pub mod Indexes
 pub mod Words
 pub mod Told
 pub mod Shown
+pub mod Samples

@@ -6,6 +6,8 @@ mod index;
 mod known;
 mod seen;
 mod table;
+#[cfg(test)]
+mod tests;
 mod texts;
 mod totals;
 

@@ -1,23 +1,98 @@
-//! A small graph with a fork and a merge, and a long one of two branches.
-ghost use Rattle.std.specs.Prelude.{◌≡◌, ◌↔◌, ◌≤◌, ◌+◌, ◌^◌, IsTrue};
+//! A small graph with a fork and a merge, and a long one of two branches. A function that has a graph of its own only
+//! lends it, since each of its ways out is proved to drop it well.
+ghost use Rattle.std.specs.Prelude.{◌↔◌, IsTrue};
 ghost use Rattle.am_types.specs.Order.{hash_cmp, Ascends};
 
 use crate::*;
 use am_types::{ActorId, Hash, IdRef, Twin};
 use std::alloc::Global;
 use std::cmp::Ordering;
+use std::process::Abort;
 use std::test::Fail;
 
-const AA: [u8; 1] = [0xaa];
+/// A change: the byte that its hash repeats, its actor, its seq, its start, how many operations it has, and the bytes of
+/// the hashes of its dependencies.
+type Sample<'a> = (u8, &'a [u8], u16, u16, u16, &'a [u8]);
 
-const BB: [u8; 1] = [0xbb];
+const AA: &[u8] = &[0xaa];
 
-fn hash(n: u8) -> Hash {
-    Hash([n; 32])
+const BB: &[u8] = &[0xbb];
+
+const CC: &[u8] = &[0xcc];
+
+/// 5 and 3 have no dependencies and differ in their hashes alone; 2 and 9 are on 5, 1 is on both, and 7 is on 9.
+const SMALL: &[Sample<'static>] = &[
+    (5, AA, 1, 1, 3, &[]),
+    (2, BB, 1, 4, 1, &[5]),
+    (9, AA, 2, 4, 2, &[5]),
+    (1, AA, 3, 6, 0, &[2, 9]),
+    (7, BB, 2, 6, 1, &[9]),
+    (3, AA, 1, 1, 3, &[]),
+];
+
+/// Changes that are added to these, and what is answered.
+const ADDED: &[(Sample<'static>, Result<Added, GraphFault>)] = &[
+    ((9, AA, 2, 4, 2, &[5]), Ok(Added::Same)),
+    ((9, BB, 2, 4, 2, &[5]), Ok(Added::Clash)),
+    ((6, BB, 3, 7, 1, &[7]), Ok(Added::New)),
+    (
+        (4, AA, 4, 6, 1, &[8]),
+        Err(GraphFault::MissingDep(Hash([8; 32]))),
+    ),
+];
+
+/// Whether a change is held, the counter of its last operation, and its depth.
+const TOLD: &[(u8, (bool, Option<u64>, Option<u64>))] = &[
+    (5, (true, Some(3), Some(0))),
+    (1, (true, Some(5), Some(2))),
+    (7, (true, Some(6), Some(2))),
+    (8, (false, None, None)),
+];
+
+/// The changes that are found by an actor and a seq.
+const FOUND: &[(&[u8], u64, Option<Hash>)] = &[(AA, 1, Some(Hash([3; 32]))), (BB, 3, None)];
+
+const HEADS: &[u8] = &[1, 3, 7];
+
+const ORDER: &[u8] = &[3, 5, 9, 2, 1, 7];
+
+/// The ancestors of the merge.
+const ANCESTORS: &[u8] = &[1, 2, 5, 9];
+
+const MERGE: &[Hash] = &[Hash([1; 32])];
+
+/// Whether a counter of an actor is covered where the merge is, and the actor's last seq there.
+const COVERED: &[(u64, &[u8], (bool, u64))] = &[
+    (5, AA, (true, 3)),
+    (6, AA, (false, 3)),
+    (4, BB, (true, 1)),
+    (1, CC, (false, 0)),
+];
+
+/// A change on both branches of the long graph.
+const LAST: Sample<'static> = (200, AA, 101, 101, 1, &[198, 199]);
+
+const LAST_HEAD: &[Hash] = &[Hash([200; 32])];
+
+fn hash(byte: u8) -> Hash {
+    Hash([byte; 32])
 }
 
-fn id(counter: u64, actor: &[u8]) -> IdRef<'_> {
-    IdRef { counter, actor }
+fn hashes(alloc: Global, bytes: &[u8]) -> Result<Vec<Hash>, Fail> {
+    let mut hashes = Vec::new(alloc);
+    for byte in bytes {
+        hashes.push(hash(*byte))?;
+    }
+    Ok(hashes)
+}
+
+/// The bytes that the hashes repeat.
+fn bytes(alloc: Global, hashes: &[Hash]) -> Result<Vec<u8>, Fail> {
+    let mut bytes = Vec::new(alloc);
+    for hash in hashes {
+        bytes.push(hash.0[0])?;
+    }
+    Ok(bytes)
 }
 
 /// Whether each hash is below the next.
@@ -32,142 +107,163 @@ fn ascend(hashes: &[Hash]) -> bool
     true
 }
 
+/// Adds a change whose dependencies ascend.
 fn add(
     graph: &mut Graph,
     alloc: Global,
-    n: u8,
-    actor: &[u8],
-    seq: u64,
-    start: u64,
-    count: u64,
-    deps: &[Hash],
-) -> Result<Added, Fail>
-    requires start { 1 ≤ start }
-    requires end { start + count ≤ 2 ^ 53 }
-{
+    sample: Sample<'_>,
+) -> Result<Result<Added, GraphFault>, Fail> {
+    let (byte, actor, seq, start, count, deps) = sample;
     let actor = ActorId::of(alloc, actor)?;
-    if !ascend(deps) {
-        return Err(Fail::from("the dependencies don't ascend"));
+    let deps = hashes(alloc, deps)?;
+    if start == 0 || !ascend(deps.as_slice()) {
+        return Err(Fail::from("no such change"));
     }
-    Ok(graph.add(alloc, hash(n), &actor, seq, start, count, deps)?)
+    let (seq, start, count) = (u64::from(seq), u64::from(start), u64::from(count));
+    Ok(graph.add(
+        alloc,
+        hash(byte),
+        &actor,
+        seq,
+        start,
+        count,
+        deps.as_slice(),
+    ))
 }
 
-/// 5 and 3 have no dependencies and differ in their hashes alone; 2 and 9 are on 5, 1 is on both, and 7 is on 9.
 fn small(alloc: Global) -> Result<Graph, Fail> {
     let mut graph = Graph::new(alloc);
-    add(&mut graph, alloc, 5, &AA, 1, 1, 3, &[])?;
-    add(&mut graph, alloc, 2, &BB, 1, 4, 1, &[hash(5)])?;
-    add(&mut graph, alloc, 9, &AA, 2, 4, 2, &[hash(5)])?;
-    add(&mut graph, alloc, 1, &AA, 3, 6, 0, &[hash(2), hash(9)])?;
-    add(&mut graph, alloc, 7, &BB, 2, 6, 1, &[hash(9)])?;
-    add(&mut graph, alloc, 3, &AA, 1, 1, 3, &[])?;
+    add_all(&mut graph, alloc, SMALL)?;
     Ok(graph)
 }
 
-#[test]
-fn finds_changes(rt: HostRuntime) -> Result<(), Fail> {
-    let graph = small(rt.alloc())?;
-    let held = [graph.holds(&hash(9)), graph.holds(&hash(8))];
-    assert_eq!(rt; held, [true, false]);
-    let found = [graph.find(&AA, 1), graph.find(&BB, 3)];
-    assert_eq!(rt; found, [Some(hash(3)), None]);
-    Ok(())
-}
-
-#[test]
-fn tells_of_changes(rt: HostRuntime) -> Result<(), Fail> {
-    let graph = small(rt.alloc())?;
-    let ends = [5, 1, 8].map(|n| graph.max_of(&hash(n)));
-    assert_eq!(rt; ends, [Some(3), Some(5), None]);
-    let depths = [5, 7, 8].map(|n| graph.depth(&hash(n)));
-    assert_eq!(rt; depths, [Some(0), Some(2), None]);
+fn add_all(graph: &mut Graph, alloc: Global, samples: &[Sample<'_>]) -> Result<(), Fail> {
+    for sample in samples {
+        add(graph, alloc, *sample)??;
+    }
     Ok(())
 }
 
 #[test]
 fn adds_once(rt: HostRuntime) -> Result<(), Fail> {
     let mut graph = small(rt.alloc())?;
-    let same = add(&mut graph, rt.alloc(), 9, &AA, 2, 4, 2, &[hash(5)])?;
-    let clash = add(&mut graph, rt.alloc(), 9, &BB, 2, 4, 2, &[hash(5)])?;
-    let new = add(&mut graph, rt.alloc(), 6, &BB, 3, 7, 1, &[hash(7)])?;
-    assert_eq!(rt; [same, clash, new], [Added::Same, Added::Clash, Added::New]);
-    Ok(())
+    adds(&rt, rt.alloc(), &mut graph)
 }
 
-#[test]
-fn misses_dependencies(rt: HostRuntime) -> Result<(), Fail> {
-    let mut graph = Graph::new(rt.alloc());
-    let actor = ActorId::of(rt.alloc(), &AA)?;
-    let deps = [hash(8)];
-    if ascend(&deps) {
-        let refused = graph.add(rt.alloc(), hash(4), &actor, 4, 6, 1, &deps);
-        assert_eq!(rt; refused, Err(GraphFault::MissingDep(hash(8))));
+fn adds(rt: &impl Abort, alloc: Global, graph: &mut Graph) -> Result<(), Fail> {
+    for (sample, answer) in ADDED {
+        assert_eq!(rt; add(graph, alloc, *sample)?, *answer);
     }
     Ok(())
 }
 
 #[test]
-fn lists_heads_and_order(rt: HostRuntime) -> Result<(), Fail> {
+fn answers(rt: HostRuntime) -> Result<(), Fail> {
     let graph = small(rt.alloc())?;
-    let heads = graph.heads(rt.alloc())?;
-    assert_eq!(rt; heads.as_slice(), [1, 3, 7].map(hash).as_slice());
-    let order = graph.order(rt.alloc())?;
-    assert_eq!(rt; order.as_slice(), [3, 5, 9, 2, 1, 7].map(hash).as_slice());
-    Ok(())
+    tells_of_changes(&rt, &graph);
+    finds_changes(&rt, &graph);
+    lists_and_clocks(&rt, rt.alloc(), &graph)
 }
 
-#[test]
-fn lists_ancestors(rt: HostRuntime) -> Result<(), Fail> {
-    let graph = small(rt.alloc())?;
-    let ancestors = graph.ancestors(rt.alloc(), &[hash(1)])?;
-    assert_eq!(rt; ancestors.as_slice(), [1, 2, 5, 9].map(hash).as_slice());
-    Ok(())
-}
-
-#[test]
-fn tells_the_time(rt: HostRuntime) -> Result<(), Fail> {
-    let graph = small(rt.alloc())?;
-    let clock = graph.clock(rt.alloc(), &[hash(1)])?;
-    let covered = [5, 6].map(|n| clock.covers(id(n, &AA)));
-    assert_eq!(rt; covered, [true, false]);
-    let seqs = [clock.last_seq(&AA), clock.last_seq(&[0xcc])];
-    assert_eq!(rt; seqs, [3, 0]);
-    Ok(())
-}
-
-#[test]
-fn tells_what_is_reached(rt: HostRuntime) -> Result<(), Fail> {
-    let graph = small(rt.alloc())?;
-    let reached = graph.reached(rt.alloc(), &[hash(7)])?;
-    let covered = [6, 7].map(|n| reached.covers(id(n, &BB)));
-    assert_eq!(rt; covered, [true, false]);
-    let seqs = [reached.last_seq(&AA), reached.last_seq(&[0xcc])];
-    assert_eq!(rt; seqs, [2, 0]);
-    Ok(())
-}
-
-/// Two branches of a hundred changes each, whose actors take turns.
-fn long(alloc: Global) -> Result<Graph, Fail> {
-    let mut graph = Graph::new(alloc);
-    add(&mut graph, alloc, 0, &AA, 1, 1, 1, &[])?;
-    add(&mut graph, alloc, 1, &BB, 1, 1, 1, &[])?;
-    for n in 2..200 {
-        let turn = u64::from(n / 2) + 1;
-        let actor = if n % 2 == 0 { &AA } else { &BB };
-        add(&mut graph, alloc, n, actor, turn, turn, 1, &[hash(n - 2)])?;
+fn tells_of_changes(rt: &impl Abort, graph: &Graph) {
+    for (byte, answer) in TOLD {
+        assert_eq!(rt; told(graph, *byte), *answer);
     }
-    Ok(graph)
+}
+
+fn told(graph: &Graph, byte: u8) -> (bool, Option<u64>, Option<u64>) {
+    let hash = hash(byte);
+    (graph.holds(&hash), graph.max_of(&hash), graph.depth(&hash))
+}
+
+fn finds_changes(rt: &impl Abort, graph: &Graph) {
+    for (actor, seq, hash) in FOUND {
+        assert_eq!(rt; graph.find(*actor, *seq), *hash);
+    }
+}
+
+/// What is found with memory.
+fn lists_and_clocks(rt: &impl Abort, alloc: Global, graph: &Graph) -> Result<(), Fail> {
+    lists_changes(rt, alloc, graph)?;
+    tells_how_far_actors_go(rt, alloc, graph)
+}
+
+fn lists_changes(rt: &impl Abort, alloc: Global, graph: &Graph) -> Result<(), Fail> {
+    let (heads, order, ancestors) = lists(alloc, graph)?;
+    let found = (heads.as_slice(), order.as_slice(), ancestors.as_slice());
+    assert_eq!(rt; found, (HEADS, ORDER, ANCESTORS));
+    Ok(())
+}
+
+/// The heads, all in order, and the ancestors of the merge.
+fn lists(alloc: Global, graph: &Graph) -> Result<(Vec<u8>, Vec<u8>, Vec<u8>), Fail> {
+    let heads = graph.heads(alloc)?;
+    let order = graph.order(alloc)?;
+    let ancestors = graph.ancestors(alloc, MERGE)?;
+    let heads = bytes(alloc, heads.as_slice())?;
+    let order = bytes(alloc, order.as_slice())?;
+    let ancestors = bytes(alloc, ancestors.as_slice())?;
+    Ok((heads, order, ancestors))
+}
+
+fn tells_how_far_actors_go(rt: &impl Abort, alloc: Global, graph: &Graph) -> Result<(), Fail> {
+    for (counter, actor, answer) in COVERED {
+        let id = IdRef {
+            counter: *counter,
+            actor: *actor,
+        };
+        assert_eq!(rt; covered(alloc, graph, id)?, [*answer; 2]);
+    }
+    Ok(())
+}
+
+/// What a clock says, and what one of a lent graph.
+fn covered(alloc: Global, graph: &Graph, id: IdRef<'_>) -> Result<[(bool, u64); 2], Fail> {
+    let clock = graph.clock(alloc, MERGE)?;
+    let reached = graph.reached(alloc, MERGE)?;
+    let clock = (clock.covers(id), clock.last_seq(id.actor));
+    let reached = (reached.covers(id), reached.last_seq(id.actor));
+    Ok([clock, reached])
+}
+
+/// Adds a change of the long graph, which has two branches whose actors take turns.
+fn add_next(graph: &mut Graph, alloc: Global, byte: u8) -> Result<(), Fail> {
+    let actor = if byte % 2 == 0 { AA } else { BB };
+    let turn = u16::from(byte / 2) + 1;
+    let below = [byte.saturating_sub(2)];
+    let deps = if byte < 2 { &[] } else { &below[..] };
+    add(graph, alloc, (byte, actor, turn, turn, 1, deps))??;
+    Ok(())
+}
+
+fn add_long(graph: &mut Graph, alloc: Global) -> Result<(), Fail> {
+    for byte in 0..200 {
+        add_next(graph, alloc, byte)?;
+    }
+    Ok(())
 }
 
 #[test]
 fn copies_whole(rt: HostRuntime) -> Result<(), Fail> {
-    let graph = long(rt.alloc())?;
-    let mut twin = graph.copy(rt.alloc())?;
-    let deps = [hash(198), hash(199)];
-    add(&mut twin, rt.alloc(), 200, &AA, 101, 101, 1, &deps)?;
-    let clock = twin.clock(rt.alloc(), &[hash(200)])?;
-    let seqs = [clock.last_seq(&AA), clock.last_seq(&BB)];
-    assert_eq!(rt; seqs, [101, 100]);
-    assert!(rt; !graph.holds(&hash(200)));
+    let mut graph = Graph::new(rt.alloc());
+    add_long(&mut graph, rt.alloc())?;
+    copies(&rt, rt.alloc(), &graph)
+}
+
+fn copies(rt: &impl Abort, alloc: Global, graph: &Graph) -> Result<(), Fail> {
+    let merged = copied(alloc, graph)?;
+    assert_eq!(rt; (merged, graph.holds(&hash(200))), ((101, 100), false));
     Ok(())
+}
+
+fn copied(alloc: Global, graph: &Graph) -> Result<(u64, u64), Fail> {
+    let mut twin = graph.copy(alloc)?;
+    merged(alloc, &mut twin)
+}
+
+/// How far both actors go where a change is added on both branches.
+fn merged(alloc: Global, graph: &mut Graph) -> Result<(u64, u64), Fail> {
+    add(graph, alloc, LAST)??;
+    let clock = graph.clock(alloc, LAST_HEAD)?;
+    Ok((clock.last_seq(AA), clock.last_seq(BB)))
 }

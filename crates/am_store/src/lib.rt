@@ -12,6 +12,8 @@ mod laws;
 mod lists;
 mod report;
 mod store;
+#[cfg(test)]
+mod tests;
 
 pub use am_graph::ClockFault;
 pub use am_types::{Rejected, Why};
