@@ -169,7 +169,7 @@ pub const FILES: [(&str, &str); 35] = [
         "856f4a83441cda1602200001aa0101000000061503340142025602570170027f0161017f017f1301\
          7f00",
     ),
-    // The same as a chunk of type 7, which no format has.
+    // The same as a chunk of type 7, which the format does not have.
     (
         "A1-type7",
         "856f4a835113f8e007200001aa0101000000061503340142025602570170027f0161017f017f1301\
@@ -188,7 +188,7 @@ pub const FILES: [(&str, &str); 35] = [
          7f00856f4a83d99aa04d01200001aa0101000000061503340142025602570170027f0161017f017f\
          13017f",
     ),
-    // A document chunk that has A1.
+    // The document chunk of A1 alone.
     (
         "d",
         "856f4a83e18cc6cf005f0101aa01d99aa04d2627b06462ea181e063a2e07e16255c088d1fe97ecf9\
@@ -201,7 +201,7 @@ pub const FILES: [(&str, &str); 35] = [
         "856f4a83baa316e601200001aa0101000000061d03340142025602570170027f0161017f017f1301\
          7f00",
     ),
-    // A1 with a column in a spelling that no writer makes.
+    // A1 with a column in a spelling that is not the canonical one.
     (
         "A1-key",
         "856f4a8305b7e76201200001aa010100000006150334014202560257017002010161017f017f1301\
