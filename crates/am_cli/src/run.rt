@@ -152,4 +152,8 @@ pub fn run<I: Source, F: Folder, O: Sink>(
 }
 
 #[cfg(test)]
+mod chunks;
+#[cfg(test)]
+mod scripts;
+#[cfg(test)]
 mod tests;

@@ -1,0 +1,316 @@
+//! For tests: files that other programs were given too, in hexadecimal, and hashes.
+
+/// The files by their names.
+pub const FILES: [(&str, &str); 35] = [
+    // Sets `a` to 1.
+    (
+        "A1",
+        "856f4a83d99aa04d01200001aa0101000000061503340142025602570170027f0161017f017f1301\
+         7f00",
+    ),
+    // Sets it to 2, by the same author and with the same sequence number.
+    (
+        "A1x",
+        "856f4a830070074201200001aa0101000000061503340142025602570170027f0161017f017f1302\
+         7f00",
+    ),
+    // Sets it to 2, by another author.
+    (
+        "B1",
+        "856f4a83512440f101200001bb0101000000061503340142025602570170027f0161017f017f1302\
+         7f00",
+    ),
+    // Overwrites the value of A1 by 2.
+    (
+        "A2",
+        "856f4a83de7aa5d2014801d99aa04d2627b06462ea181e063a2e07e16255c088d1fe97ecf9c964cf\
+         a6ce3201aa020200000008150334014202560257017002710273027f0161017f017f13027f017f00\
+         7f01",
+    ),
+    // Deletes the value of A1.
+    (
+        "A3",
+        "856f4a837816ce7c014501d99aa04d2627b06462ea181e063a2e07e16255c088d1fe97ecf9c964cf\
+         a6ce3201aa02020000000715033401420256027002710273027f0161017f037f007f017f007f01",
+    ),
+    // A2 with the sequence number 3.
+    (
+        "A2-seq3",
+        "856f4a83936fc70f014801d99aa04d2627b06462ea181e063a2e07e16255c088d1fe97ecf9c964cf\
+         a6ce3201aa030200000008150334014202560257017002710273027f0161017f017f13027f017f00\
+         7f01",
+    ),
+    // A2 with the start 1.
+    (
+        "A2-start1",
+        "856f4a837faa4af7014801d99aa04d2627b06462ea181e063a2e07e16255c088d1fe97ecf9c964cf\
+         a6ce3201aa020100000008150334014202560257017002710273027f0161017f017f13027f017f00\
+         7f01",
+    ),
+    // A2 with the key `b`.
+    (
+        "A2-keyb",
+        "856f4a83de4808c1014801d99aa04d2627b06462ea181e063a2e07e16255c088d1fe97ecf9c964cf\
+         a6ce3201aa020200000008150334014202560257017002710273027f0162017f017f13027f017f00\
+         7f01",
+    ),
+    // A2 with a second operation, which sets `b` and names the value of A1 as its predecessor.
+    (
+        "A2-second",
+        "856f4a83f474b02b014c01d99aa04d2627b06462ea181e063a2e07e16255c088d1fe97ecf9c964cf\
+         a6ce3201aa020200000008150534014202560257027002710273037e016101620202010213020202\
+         0102007e0100",
+    ),
+    // Depends on A1, and starts at 1.
+    (
+        "W2",
+        "856f4a835b1b7beb013d01d99aa04d2627b06462ea181e063a2e07e16255c088d1fe97ecf9c964cf\
+         a6ce3201aa020100000005150334014202560270027f0171017f017f007f00",
+    ),
+    // Depends on W2 alone.
+    (
+        "W3",
+        "856f4a8384b1aad80129015b1b7beb4ff3d619997f492632ce24c2678f14eba756ee4b5085230880\
+         c22ae701bb010900000000",
+    ),
+    // Makes the text `ab`.
+    (
+        "T1",
+        "856f4a831a19072501410001aa01010000000a010402041104130515053402420456045702700200\
+         0102000001020100027f0000017e00027f0174000201027f0402017f00021661620300",
+    ),
+    // Puts `x` behind its first letter.
+    (
+        "T2",
+        "856f4a83c1cc5f23014e011a190725c9e01787574caaf60bf64d2dcea17d67eac3bb9aa2c9ca1318\
+         e3c01501bb010400000101aa090102020211021302340242025602570170027f017f017f017f0200\
+         017f017f16787f00",
+    ),
+    // Puts `y` there, by a third author.
+    (
+        "T3",
+        "856f4a8318fc8280014e011a190725c9e01787574caaf60bf64d2dcea17d67eac3bb9aa2c9ca1318\
+         e3c01501cc010400000101aa090102020211021302340242025602570170027f017f017f017f0200\
+         017f017f16797f00",
+    ),
+    // Sets `n` to a counter of 10.
+    (
+        "K1",
+        "856f4a83b33d613401200001aa0101000000061503340142025602570170027f016e017f017f180a\
+         7f00",
+    ),
+    // Adds 5.
+    (
+        "K2",
+        "856f4a83d8498c0d014a01b33d61342e9377bc9c0a608ee9b712af65785d2809cd1629e7770018c6\
+         b88d8401bb010200000101aa08150334014202560257017002710273027f016e017f057f14057f01\
+         7f017f01",
+    ),
+    // Adds -3, at the same time.
+    (
+        "K3",
+        "856f4a835100e2fb014a01b33d61342e9377bc9c0a608ee9b712af65785d2809cd1629e7770018c6\
+         b88d8401cc010200000101aa08150334014202560257017002710273027f016e017f057f147d7f01\
+         7f017f01",
+    ),
+    // Deletes the counter, after both.
+    (
+        "K4",
+        "856f4a83835dc35a0165025100e2fb3a0d6b983dbe35ad73f21dc59762eff34024cc175b28214be1\
+         44af82d8498c0d77726c5d8eefe2574515184538f24241f390bf670af9f2c39365f6cb01aa020300\
+         00000715033401420256027002710273027f016e017f037f007f017f007f01",
+    ),
+    // Sets `n` to a counter of 2^63 - 1.
+    (
+        "K5",
+        "856f4a83580d42f5012a0001aa0101000000061503340142025603570a70027f016e017f017fa801\
+         ffffffffffffffffff007f00",
+    ),
+    // Adds 5 to that.
+    (
+        "K6",
+        "856f4a83fdf2c724014a01580d42f5fe6dfd79d1eb746d80825a5de55fc069ecbfc3bccfec4dc036\
+         569a9301bb010200000101aa08150334014202560257017002710273027f016e017f057f14057f01\
+         7f017f01",
+    ),
+    // 126 maps in one another, each under the key `m`.
+    (
+        "M126",
+        "856f4a83df8f826b01ac010001aa0101000000070105028101150434014203560370030001fd0000\
+         0001837f0102030405060708090a0b0c0d0e0f101112131415161718191a1b1c1d1e1f2021222324\
+         25262728292a2b2c2d2e2f303132333435363738393a3b3c3d3e3f404142434445464748494a4b4c\
+         4d4e4f505152535455565758595a5b5c5d5e5f606162636465666768696a6b6c6d6e6f7071727374\
+         75767778797a7b7c7dfe00016d7efe0000fe0000fe0000",
+    ),
+    // 127 of them.
+    (
+        "M127",
+        "856f4a8368de57ba01ad010001aa0101000000070105028201150434014203560370030001fe0000\
+         0001827f0102030405060708090a0b0c0d0e0f101112131415161718191a1b1c1d1e1f2021222324\
+         25262728292a2b2c2d2e2f303132333435363738393a3b3c3d3e3f404142434445464748494a4b4c\
+         4d4e4f505152535455565758595a5b5c5d5e5f606162636465666768696a6b6c6d6e6f7071727374\
+         75767778797a7b7c7d7eff00016d7fff0000ff0000ff0000",
+    ),
+    // A1 with another checksum.
+    (
+        "A1-sum",
+        "856f4a83d89aa04d01200001aa0101000000061503340142025602570170027f0161017f017f1301\
+         7f00",
+    ),
+    // That with another first byte too.
+    (
+        "A1-magic",
+        "846f4a83d89aa04d01200001aa0101000000061503340142025602570170027f0161017f017f1301\
+         7f00",
+    ),
+    // The contents of A1 as a chunk of type 2, which is compressed.
+    (
+        "A1-type2",
+        "856f4a83441cda1602200001aa0101000000061503340142025602570170027f0161017f017f1301\
+         7f00",
+    ),
+    // The same as a chunk of type 7, which the format does not have.
+    (
+        "A1-type7",
+        "856f4a835113f8e007200001aa0101000000061503340142025602570170027f0161017f017f1301\
+         7f00",
+    ),
+    // The same with a longer spelling of the length.
+    (
+        "A1-length",
+        "856f4a832662b9c801a0000001aa0101000000061503340142025602570170027f0161017f017f13\
+         017f00",
+    ),
+    // A1, and A1 without its last byte.
+    (
+        "A1-twice",
+        "856f4a83d99aa04d01200001aa0101000000061503340142025602570170027f0161017f017f1301\
+         7f00856f4a83d99aa04d01200001aa0101000000061503340142025602570170027f0161017f017f\
+         13017f",
+    ),
+    // The document chunk of A1 alone.
+    (
+        "d",
+        "856f4a83e18cc6cf005f0101aa01d99aa04d2627b06462ea181e063a2e07e16255c088d1fe97ecf9\
+         c964cfa6ce32060102030213022302400256020815032102230234014202560257018001027f007f\
+         017f017f007f007f077f01617f007f01017f017f13017f0000",
+    ),
+    // A1 with a column that is marked as compressed.
+    (
+        "A1-deflate",
+        "856f4a83baa316e601200001aa0101000000061d03340142025602570170027f0161017f017f1301\
+         7f00",
+    ),
+    // A1 with a column in a spelling that is not the canonical one.
+    (
+        "A1-key",
+        "856f4a8305b7e76201200001aa010100000006150334014202560257017002010161017f017f1301\
+         7f00",
+    ),
+    // A1 with the start 2^53.
+    (
+        "A1-start53",
+        "856f4a83652a379601270001aa018080808080808010000000061503340142025602570170027f01\
+         61017f017f13017f00",
+    ),
+    // A3 with a number as the value of the deletion.
+    (
+        "A3-kind3",
+        "856f4a8319d613f5014801d99aa04d2627b06462ea181e063a2e07e16255c088d1fe97ecf9c964cf\
+         a6ce3201aa020200000008150334014202560257017002710273027f0161017f037f13017f017f00\
+         7f01",
+    ),
+    // The same, without the bytes of the number.
+    (
+        "A3-kind3b",
+        "856f4a8313af8ddb014501d99aa04d2627b06462ea181e063a2e07e16255c088d1fe97ecf9c964cf\
+         a6ce3201aa02020000000715033401420256027002710273027f0161017f037f037f017f007f01",
+    ),
+    // A3 without a predecessor.
+    (
+        "A3-nopred",
+        "856f4a830897ce8a013d01d99aa04d2627b06462ea181e063a2e07e16255c088d1fe97ecf9c964cf\
+         a6ce3201aa020200000005150334014202560270027f0161017f037f007f00",
+    ),
+];
+
+/// The hashes of chunks by the names of their files, and at the end digits that are the hash of none of them, in lower and
+/// in upper case.
+pub const HASHES: [(&str, &str); 19] = [
+    (
+        "A1",
+        "d99aa04d2627b06462ea181e063a2e07e16255c088d1fe97ecf9c964cfa6ce32",
+    ),
+    (
+        "A1x",
+        "007007422d7792d37024b2efaeb629b8044175746a1917a1d9ab70862fea7ead",
+    ),
+    (
+        "B1",
+        "512440f136e77f01245265423c2b83b809183b6afe018895fe90fb9daa9cde70",
+    ),
+    (
+        "A2",
+        "de7aa5d293a01223b61fe7d53a9fea91b9b69485dc4aa90ef64b1f56225f8b6a",
+    ),
+    (
+        "A2-seq3",
+        "936fc70f4e734d941a8a4d2ae95561e0aa493bf61cbb2061406e5a8996fc5aa9",
+    ),
+    (
+        "A2-start1",
+        "7faa4af7e3fba1a1d03e1f20000e37a65556d76177bcb3a47f183b1b744c1e71",
+    ),
+    (
+        "A2-keyb",
+        "de4808c123d491b06f18b89c3281d120edaf8de69e3111000dcdce7561382caf",
+    ),
+    (
+        "A2-second",
+        "f474b02b46552f6284a8c2ad22835cc280b295915eb655484fc87f85ebbee6ef",
+    ),
+    (
+        "W2",
+        "5b1b7beb4ff3d619997f492632ce24c2678f14eba756ee4b5085230880c22ae7",
+    ),
+    (
+        "W3",
+        "84b1aad820acc4009552d956c50d1e1694f3b9552d7f4fd33e708231628056fb",
+    ),
+    (
+        "T1",
+        "1a190725c9e01787574caaf60bf64d2dcea17d67eac3bb9aa2c9ca1318e3c015",
+    ),
+    (
+        "T2",
+        "c1cc5f235616b32260abb8180442d228c96b97ba77805f55a422483e95f70600",
+    ),
+    (
+        "K2",
+        "d8498c0d77726c5d8eefe2574515184538f24241f390bf670af9f2c39365f6cb",
+    ),
+    (
+        "K3",
+        "5100e2fb3a0d6b983dbe35ad73f21dc59762eff34024cc175b28214be144af82",
+    ),
+    (
+        "M127",
+        "68de57ba7508e0a6e453ae09a44a90bc5f41377eddd829f774c66c798fc7be21",
+    ),
+    (
+        "d",
+        "e18cc6cf779479d6297417b9fc6ca1419eca830bf455f3ff012476a16cae69f8",
+    ),
+    (
+        "A1-deflate",
+        "baa316e64e631658be05583baf1172b0f4f038b697e41ada0de6ed86bf1d936e",
+    ),
+    (
+        "none",
+        "abcdef0123456789abcdef0123456789abcdef0123456789abcdef0123456789",
+    ),
+    (
+        "NONE",
+        "ABCDEF0123456789ABCDEF0123456789ABCDEF0123456789ABCDEF0123456789",
+    ),
+];
