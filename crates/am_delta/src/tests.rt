@@ -17,6 +17,36 @@ fn written(rt: HostRuntime) -> Result<(), AllocError> {
 }
 
 #[test]
+fn written_in_two_rises(rt: HostRuntime) -> Result<(), AllocError> {
+    let mut writer = DeltaWriter::new(rt.alloc());
+    writer.push(Some(10))?;
+    writer.push(Some(11))?;
+    writer.push(Some(12))?;
+    writer.push(Some(13))?;
+    writer.push(Some(0))?;
+    writer.push(Some(1))?;
+    writer.push(Some(2))?;
+    writer.push(Some(3))?;
+    assert!(rt; writer.finish()?.as_slice() == &[0x7f, 10, 3, 1, 0x7f, 0x73, 3, 1][..]);
+    Ok(())
+}
+
+#[test]
+fn written_in_one_rise(rt: HostRuntime) -> Result<(), AllocError> {
+    let mut writer = DeltaWriter::new(rt.alloc());
+    writer.push(Some(1))?;
+    writer.push(Some(2))?;
+    writer.push(Some(3))?;
+    writer.push(Some(4))?;
+    writer.push(Some(5))?;
+    writer.push(Some(6))?;
+    writer.push(Some(7))?;
+    writer.push(Some(8))?;
+    assert!(rt; writer.finish()?.as_slice() == &[8, 1][..]);
+    Ok(())
+}
+
+#[test]
 fn read(rt: HostRuntime) {
     let rows: [(&[Option<i64>], &[u8]); 3] = [
         (&[Some(5), None, Some(7)], &[0x7f, 5, 0, 1, 0x7f, 2]),

@@ -15,6 +15,17 @@ fn written(rt: HostRuntime) -> Result<(), AllocError> {
 }
 
 #[test]
+#[tactic(auto, using(crate::proofs::Skimmed::unsigned_single))]
+fn written_numbers(rt: HostRuntime) -> Result<(), AllocError> {
+    let mut writer = RunWriter::<UnsignedItem>::new(rt.alloc());
+    writer.push(Some(&[1]))?;
+    writer.push(Some(&[2]))?;
+    writer.push(Some(&[3]))?;
+    assert!(rt; writer.finish()?.as_slice() == &[0x7d, 1, 2, 3][..]);
+    Ok(())
+}
+
+#[test]
 fn judged(rt: HostRuntime) {
     let canonical: [&[u8]; 7] = [
         &[],
