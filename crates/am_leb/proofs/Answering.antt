@@ -1,3 +1,4 @@
+-- What reading answers, in the words of the contracts: a number is found, or one of three faults comes.
 use Rattle.std.proofs.Common.{◌≡◌, ℕ, ◌^◌, ◌<◌, ◌≤◌, Bool, true, false, nat_lt, List, ◌++◌, length, take, drop, get_or, Some, None, Result, Ok, Err, pos, ℤ, refl, sym, ap, ◌∙◌, inl, inr, ⊎_elim, ◌⊎◌, ◌↔◌, subst, arith, length-take}
 use Rattle.std.specs.List.{All}
 use Rattle.std.specs.Result.{IfOk}

@@ -1,3 +1,4 @@
+-- The shortest unsigned spelling of a number is the one that its digits make.
 use Rattle.std.proofs.Common.{◌≡◌, ℕ, suc, zero, ◌+◌, ◌^◌, ◌%◌, ◌/◌, ◌<◌, ◌≤◌, true, false, nat_lt, List, [], ◌∷◌, length, refl, sym, ap, ◌∙◌, inl, inr, ⊎_elim, ◌⊎◌, ◌↔◌, subst, arith}
 use Rattle.std.proofs.Math.Nat.{pow-succ', pow-le-pow_right}
 use Rattle.std.proofs.lemmas.Bool.Decides.{nat_tests}

@@ -1,3 +1,6 @@
+-- How the number that stands first is read, and which fault comes where none does.
+--     end_within k bytes      how many bytes the spelling has that begins the bytes, within the first k of them
+--     first_unsigned bytes, first_signed bytes     the number and the length of its spelling, or the fault
 use Rattle.std.specs.Prelude.{◌≡◌, ℕ, ◌+◌, ◌*◌, ◌^◌, ◌%◌, ◌-◌, ◌≤◌, List, [], ◌∷◌, length, take, nat_lt, true, false, suc, zero, Option, Some, None, Result, Ok, Err, if◌then◌else◌, Bool, ℤ, pos, negsuc}
 use Rattle.am_leb.specs.declared.fault.LebFault.{LebFault}
 use Rattle.am_leb.specs.declared.fault.LebFault.TheVariants.{Short, Long, Large}
