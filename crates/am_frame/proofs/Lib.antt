@@ -4,3 +4,4 @@ pub mod FaultLaws
 pub mod HeadLaws
 pub mod Unique
 pub mod Verdict
+pub mod ReadLaws

@@ -1,8 +1,8 @@
 -- What may be wrong with the first chunk of some bytes. Each fault is told by what the bytes are, and no two apply at
 -- once; the first chunk of a file that is bad comes last.
-use Rattle.std.specs.Prelude.{◌≡◌, ◌≢◌, ℕ, ◌<◌, ◌+◌, ◌^◌, List, ◌∷◌, ◌++◌, length, take, All, flat_map}
+use Rattle.std.specs.Prelude.{◌≡◌, ◌≢◌, ℕ, ◌<◌, ◌+◌, ◌^◌, List, ◌∷◌, ◌++◌, length, take, All, flat_map, ◌⊎◌}
 use Rattle.am_leb.specs.Leb.{uleb}
-use Rattle.am_frame.specs.Frames.{magic, frame_with, check_of, IsCut, Chunk, IsChunk, chunk_bytes}
+use Rattle.am_frame.specs.Frames.{magic, frame_with, check_of, IsCut, Chunk, IsChunk, chunk_bytes, IsFile}
 use Rattle.am_frame.specs.declared.fault.FrameFault.{FrameFault}
 use Rattle.am_frame.specs.declared.fault.FrameFault.TheVariants.{BadMagic, Truncated, BadLength, BadChecksum, ChunkType, CompressedChunk}
 
@@ -56,3 +56,7 @@ pub record FirstBad (bytes : List ℕ) (k : ℕ) (fault : FrameFault) : Type 0 w
   pub more : 0 < length rest
   pub bad : HasFault rest fault
   pub number : k ≡ length before + 1
+
+-- the bytes are a file of chunks, or a first one is bad
+abbrev pub IsRead : List ℕ → Type 0
+IsRead bytes = ((chunks : List Chunk) × IsFile bytes chunks) ⊎ ((k : ℕ) × (fault : FrameFault) × FirstBad bytes k fault)

@@ -7,11 +7,13 @@ mod encode;
 mod fault;
 mod frame;
 mod laws;
+mod reading;
 
 pub use encode::framed;
 pub use fault::FrameFault;
 pub use frame::{Frame, next_frame};
 pub use laws::{one_fault, one_reading};
+pub use reading::some_reading;
 
 #[cfg(test)]
 mod tests;
