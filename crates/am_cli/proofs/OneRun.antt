@@ -13,7 +13,7 @@ use Rattle.am_types.specs.Order.{hash_cmp, sorted_by, same as same_by}
 use Rattle.am_types.specs.Members.{Member, hashes, heads, holds}
 use Rattle.am_types.specs.ValidSets.{Valid}
 use Rattle.am_types.specs.Deliver.{Sets, deliver, AreStored, MayCome}
-use Rattle.am_types.specs.Laws.{ListingIsFree}
+use Rattle.am_laws.specs.Laws.{ListingIsFree}
 use Rattle.am_delivery.specs.Laws as delivery
 use Rattle.am_store.specs.Kept.{Kept, with_hashes}
 use Rattle.am_store.specs.Files as store

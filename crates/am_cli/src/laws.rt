@@ -17,6 +17,6 @@ pub fn one_run()
     am_store::one_reading();
     am_delivery::listing_is_free();
     am_delivery::stays_stored();
-    am_types::listing_is_free();
-    am_types::sorting_is_free();
+    am_laws::listing_is_free();
+    am_laws::sorting_is_free();
 }

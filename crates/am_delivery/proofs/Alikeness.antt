@@ -16,9 +16,9 @@ use Rattle.am_types.specs.Members.{Member, member, holds_deps}
 use Rattle.am_types.specs.Verdicts.{verdict}
 use Rattle.am_types.specs.Deliver.{Sets, MayCome, Alike, turned_away, ready, admit_by, admit, step, steps, receive, receive_by, settle, deliver}
 use Rattle.am_types.proofs.Orders.{hash_total, hash_exact, same_hash-true}
-use Rattle.am_types.proofs.Ancestry.{Contains-filter, Contains-from_filter}
+use Rattle.am_laws.proofs.Ancestry.{Contains-filter, Contains-from_filter}
 use Rattle.am_types.proofs.Sorting.{sorted_by-permutation}
-use Rattle.am_types.proofs.SettleLaws.{by_hash, first_or_none, step_idle, step_first}
+use Rattle.am_laws.proofs.SettleLaws.{by_hash, first_or_none, step_idle, step_first}
 use Rattle.am_delivery.specs.Laws.{ListingIsFree}
 use Rattle.am_delivery.proofs.Lists.{Within-permutation, Within-permutation_back, same_members, same_truth}
 use Rattle.am_delivery.proofs.Members.{Distinct, Unique, deps_within, distinct_from_once, once_from_distinct, once_permutation, distinct_filter, no_repeat, unique}

@@ -9,7 +9,7 @@ use Rattle.am_types.specs.declared.Change.{Change}
 use Rattle.am_types.specs.Order.{hash_cmp, same}
 use Rattle.am_types.specs.Members.{Member, holds}
 use Rattle.am_types.proofs.Orders.{same_hash-true, same_hash_itself}
-use Rattle.am_types.proofs.Ancestry.{Contains-filter, Contains-from_filter}
+use Rattle.am_laws.proofs.Ancestry.{Contains-filter, Contains-from_filter}
 use Rattle.am_delivery.specs.Tracking.{missing, Tracker, Tracks, Enters}
 use Rattle.am_delivery.proofs.Lists.{NoRepeat, Contains-here, Contains-later, Contains-map, Contains-from_map}
 use Rattle.am_delivery.proofs.Tracking.{named_in, named_none}

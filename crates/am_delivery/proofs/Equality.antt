@@ -24,7 +24,7 @@ use Rattle.am_types.specs.contracts.value.RawValuePartialEq.TheImpl as values
 use Rattle.am_types.specs.contracts.change.OpPartialEq.TheImpl as ops
 use Rattle.am_types.specs.contracts.change.ChangePartialEq.TheImpl as changes
 use Rattle.am_types.specs.Same.{same_change}
-use Rattle.am_types.proofs.Listed.{same_bytes-true}
+use Rattle.am_types.proofs.Orders.{same_bytes-true}
 use Rattle.am_types.proofs.SameLaws.{same_change-true}
 use Rattle.am_delivery.proofs.Lists.{same_truth}
 use Rattle.am_delivery.proofs.Skipping.{change_itself}

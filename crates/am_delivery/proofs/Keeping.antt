@@ -8,7 +8,7 @@ use Rattle.am_types.specs.Same.{same_change}
 use Rattle.am_types.specs.Members.{Member, member}
 use Rattle.am_types.specs.Verdicts.{verdict}
 use Rattle.am_types.specs.Deliver.{Sets, ready, without, admit_by, admit, receive, receive_by, settle, deliver}
-use Rattle.am_types.proofs.Listings.{settle-keeps}
+use Rattle.am_laws.proofs.Listings.{settle-keeps}
 use Rattle.am_delivery.specs.Laws.{KeepsWhatCame}
 use Rattle.am_delivery.proofs.Lists.{Within, Within-add}
 use Rattle.am_delivery.proofs.Settling.{first_ready, waits_still}

@@ -10,7 +10,7 @@ use Rattle.am_types.specs.declared.Change.{Change}
 use Rattle.am_types.specs.Order.{hash_cmp, same, among}
 use Rattle.am_types.specs.Members.{Member, hashes, holds, holds_deps}
 use Rattle.am_types.proofs.Orders.{same_hash-true, same_hash_itself}
-use Rattle.am_types.proofs.Ancestry.{Contains-from_filter}
+use Rattle.am_laws.proofs.Ancestry.{Contains-from_filter}
 use Rattle.am_delivery.proofs.Lists.{Within, NoRepeat, Contains-none, Contains-cons_cases, any_from, all_found, all_from, Contains-map, Contains-from_map}
 
 pub among_from : (hs : List Hash) (h : Hash) → Contains hs h → among hash_cmp hs h ≡ true

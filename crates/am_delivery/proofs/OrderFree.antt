@@ -15,8 +15,8 @@ use Rattle.am_types.specs.Verdicts.{verdict}
 use Rattle.am_types.specs.ValidSets.{Joins, JoinInTurn, Reachable, IsGreatest}
 use Rattle.am_types.specs.Deliver.{Sets, MayCome, ready, admit_by, admit, receive, receive_by, deliver, after_all, after}
 use Rattle.am_types.proofs.Orders.{same_hash-true}
-use Rattle.am_types.proofs.SettleLaws.{settle_settles}
-use Rattle.am_types.proofs.Listings.{settle-keeps, JoinInTurn-push}
+use Rattle.am_laws.proofs.SettleLaws.{settle_settles}
+use Rattle.am_laws.proofs.Listings.{settle-keeps, JoinInTurn-push}
 use Rattle.am_delivery.specs.Laws.{NoneClash, OrderIsFree}
 use Rattle.am_delivery.proofs.Lists.{Within, Within-push, Within-permutation, Within-permutation_back, Contains-none, Contains-from_flat_map, find_none, any_none, found_is}
 use Rattle.am_delivery.proofs.Members.{holder, deps_within, distinct_from_once, once_permutation, no_repeat}

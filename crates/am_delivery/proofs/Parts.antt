@@ -8,7 +8,7 @@ use Rattle.am_types.specs.declared.Hash.{Hash}
 use Rattle.am_types.specs.Members.{Member, holds, holds_deps, DepsFirst}
 use Rattle.am_types.specs.Ancestors.{is_named, ancestor_hashes, ancestors}
 use Rattle.am_types.specs.ValidSets.{JoinInTurn, Valid}
-use Rattle.am_types.proofs.Ancestry.{ancestors_closed, Contains-filter, Contains-from_filter}
+use Rattle.am_laws.proofs.Ancestry.{ancestors_closed, Contains-filter, Contains-from_filter}
 use Rattle.am_delivery.proofs.Lists.{Within, Within-add, Contains-none, Contains-here, Contains-later, all_found, all_from, same_members, Within-permutation, Within-permutation_back}
 use Rattle.am_delivery.proofs.Members.{among_from, holder, holds_it, distinct_filter, once_from_distinct, distinct_from_once, no_repeat, once_permutation, deps_within}
 use Rattle.am_delivery.proofs.SameAncestors.{ancestor_is}

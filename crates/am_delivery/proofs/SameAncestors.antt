@@ -5,7 +5,7 @@ use Rattle.am_types.specs.declared.Hash.{Hash}
 use Rattle.am_types.specs.Order.{hash_cmp, among}
 use Rattle.am_types.specs.Members.{Member, holds}
 use Rattle.am_types.specs.Ancestors.{is_named, ancestor_hashes, ancestors}
-use Rattle.am_types.proofs.Ancestry.{ancestors_closed, ancestors_named, ancestors_least, Contains-from_filter}
+use Rattle.am_laws.proofs.Ancestry.{ancestors_closed, ancestors_named, ancestors_least, Contains-from_filter}
 use Rattle.am_delivery.proofs.Lists.{Within, all_found}
 use Rattle.am_delivery.proofs.Members.{among_from, from_among, holder, Closed, Unique}
 

@@ -8,10 +8,10 @@ use Rattle.am_types.specs.Members.{Member, holds, holds_deps}
 use Rattle.am_types.specs.ValidSets.{JoinInTurn}
 use Rattle.am_types.specs.Deliver.{Sets, ready, without, admit_by, admit, settle}
 use Rattle.am_types.proofs.Orders.{same_hash-true, same_hash_itself}
-use Rattle.am_types.proofs.Ancestry.{Contains-filter, Contains-from_filter}
+use Rattle.am_laws.proofs.Ancestry.{Contains-filter, Contains-from_filter}
 use Rattle.am_types.proofs.Sorting.{IsPermutation-sorted_by}
-use Rattle.am_types.proofs.SettleLaws.{by_hash, settle_settles}
-use Rattle.am_types.proofs.Listings.{settle-keeps}
+use Rattle.am_laws.proofs.SettleLaws.{by_hash, settle_settles}
+use Rattle.am_laws.proofs.Listings.{settle-keeps}
 use Rattle.am_delivery.specs.Laws.{Leaves}
 use Rattle.am_delivery.proofs.Lists.{Within, Within-add, Contains-none, same_members}
 use Rattle.am_delivery.proofs.Members.{Distinct, holds_it, holder, deps_within, unique, no_repeat, distinct_from_once, distinct_filter}

@@ -18,7 +18,7 @@ use Rattle.am_types.specs.Same.{same_bytes, same_hash, same_id, same_object, sam
 use Rattle.am_types.specs.Members.{Member, member}
 use Rattle.am_types.specs.Deliver.{Sets, receive, receive_by, settle, deliver}
 use Rattle.am_types.proofs.Orders.{same_hash-true, same_hash_itself, same_id_itself}
-use Rattle.am_types.proofs.SettleLaws.{settle_idle}
+use Rattle.am_laws.proofs.SettleLaws.{settle_idle}
 use Rattle.am_delivery.specs.Laws.{HeldIsSkipped}
 use Rattle.am_delivery.proofs.Lists.{found_is, find_none, any_none}
 use Rattle.am_delivery.proofs.Members.{Unique, unique}

@@ -15,8 +15,8 @@ use Rattle.am_types.specs.Verdicts.{verdict}
 use Rattle.am_types.specs.ValidSets.{Joins, Valid}
 use Rattle.am_types.specs.Deliver.{Sets, MayCome, AreStored, ready, admit_by, admit, receive, receive_by, settle, deliver}
 use Rattle.am_types.proofs.Orders.{same_hash_itself}
-use Rattle.am_types.proofs.SettleLaws.{settle_settles}
-use Rattle.am_types.proofs.Listings.{settle-keeps, JoinInTurn-push}
+use Rattle.am_laws.proofs.SettleLaws.{settle_settles}
+use Rattle.am_laws.proofs.Listings.{settle-keeps, JoinInTurn-push}
 use Rattle.am_delivery.specs.Laws.{StaysStored}
 use Rattle.am_delivery.proofs.Lists.{Within-permutation, Within-permutation_back, all_found, find_none, any_none}
 use Rattle.am_delivery.proofs.Members.{Once, Distinct, times-append, times_none, holds_it, holder, not_held_within, deps_within, distinct_from_once, once_from_distinct, distinct_filter, once_push, unique}

@@ -16,10 +16,10 @@ use Rattle.am_types.specs.Fine.{Fine}
 use Rattle.am_types.specs.Members.{Member, holds, holds_deps}
 use Rattle.am_types.specs.Deliver.{ready, without}
 use Rattle.am_types.proofs.Orders.{hash_total, same_hash-true, same_hash_itself}
-use Rattle.am_types.proofs.Ancestry.{Contains-filter, Contains-from_filter}
+use Rattle.am_laws.proofs.Ancestry.{Contains-filter, Contains-from_filter}
 use Rattle.am_types.proofs.Sorting.{IsPermutation-sorted_by}
 use Rattle.am_types.proofs.Rising.{put_first}
-use Rattle.am_types.proofs.SettleLaws.{by_hash}
+use Rattle.am_laws.proofs.SettleLaws.{by_hash}
 use Rattle.am_delivery.specs.Tracking.{missing, Tracker, Tracks, Takes, Releases, Enters}
 use Rattle.am_delivery.proofs.Lists.{Within, NoRepeat, Contains-none, Contains-here, Contains-later, Contains-cons_cases, same_members, all_found, all_from}
 use Rattle.am_delivery.proofs.Members.{Distinct, holds_it, holder, holds_within, not_held_within, deps_within, among_from, from_among, unique, no_repeat, distinct_filter}

@@ -6,7 +6,7 @@ use Rattle.am_types.specs.Members.{Member, changes, holds, holds_deps, DepsFirst
 use Rattle.am_types.specs.Ancestors.{ancestors}
 use Rattle.am_types.specs.Verdicts.{limit_passed}
 use Rattle.am_types.specs.ValidSets.{Joins, JoinInTurn}
-use Rattle.am_types.proofs.VerdictLaws.{fits_by}
+use Rattle.am_laws.proofs.VerdictLaws.{fits_by}
 use Rattle.am_delivery.proofs.Lists.{Within, Within-add, Contains-none, Contains-here, Contains-later, Contains-cons_cases, all_found}
 use Rattle.am_delivery.proofs.Members.{Closed, Unique, Once, deps_within, distinct_from_once, fresh_from_once, once_push, no_repeat, unique}
 use Rattle.am_delivery.proofs.SameAncestors.{ancestors_within}

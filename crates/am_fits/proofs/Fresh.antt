@@ -7,9 +7,9 @@ use Rattle.am_types.specs.Fine.{Fine}
 use Rattle.am_types.specs.Operations.{Operation, operations, all_operations, DistinctIds, max}
 use Rattle.am_types.specs.Members.{Member}
 use Rattle.am_types.specs.Deliver.{MayCome}
-use Rattle.am_types.proofs.DistinctOperations.{distinct_ids_valid}
+use Rattle.am_laws.proofs.DistinctOperations.{distinct_ids_valid}
 use Rattle.am_types.proofs.Orders.{same_id-true}
-use Rattle.am_types.proofs.Rules.{keeps_rules}
+use Rattle.am_laws.proofs.Rules.{keeps_rules}
 use Rattle.am_fits.specs.Facts.{Fact, fact_of, facts, fact_with}
 use Rattle.am_fits.specs.Indexes.{Indexed, index_of, index_with, MayAdmit}
 use Rattle.am_fits.specs.Sums.{totals_of, AreWithinLimits}

@@ -5,7 +5,7 @@ use Rattle.std.proofs.lemmas.Bool.{cases_Bool, and_from, and_parts, eqb-true}
 use Rattle.am_types.specs.declared.OpId.{OpId}
 use Rattle.am_types.specs.Same.{same_id}
 use Rattle.am_types.proofs.Orders.{same_id-true, same_id_itself}
-use Rattle.am_types.proofs.Growth.{same_answers}
+use Rattle.am_laws.proofs.Growth.{same_answers}
 use Rattle.am_graph.specs.Reaches.{number}
 use Rattle.am_fits.specs.declared.table.IdKey.{IdKey}
 use Rattle.am_fits.specs.declared.table.Kept.{Kept}

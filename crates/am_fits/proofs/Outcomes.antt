@@ -13,7 +13,7 @@ use Rattle.am_graph.proofs.Held.{held_of_set}
 use Rattle.am_types.specs.Ancestors.{ancestors}
 use Rattle.am_types.specs.ValidSets.{Valid}
 use Rattle.am_types.specs.Verdicts.{verdict, seq_clash, seq_gap, start_low, bad_reference, full}
-use Rattle.am_types.proofs.Listed.{Facts}
+use Rattle.am_laws.proofs.Listed.{Facts}
 use Rattle.am_graph.specs.declared.node.Node.{Node}
 use Rattle.am_graph.specs.declared.reach.Reach.{Reach}
 use Rattle.am_graph.specs.Clocks.{IsClockOf}

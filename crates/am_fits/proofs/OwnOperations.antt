@@ -12,10 +12,10 @@ use Rattle.am_types.specs.declared.Op.{Op}
 use Rattle.am_types.specs.declared.Change.{Change}
 use Rattle.am_types.specs.Same.{same_bytes, same_id}
 use Rattle.am_types.specs.Operations.{Operation, numbered, operations}
-use Rattle.am_types.proofs.Listed.{same_bytes-true}
+use Rattle.am_types.proofs.Orders.{same_bytes-true}
 use Rattle.am_types.proofs.Lists.{Contains-head, Contains-tail}
 use Rattle.am_types.proofs.Orders.{same_id-true, same_id_itself}
-use Rattle.am_types.proofs.Growth.{same_answers}
+use Rattle.am_laws.proofs.Growth.{same_answers}
 use Rattle.am_fits.specs.Facts.{Fact, fact_of, facts, fact_with}
 use Rattle.am_fits.specs.Told.{own, own_fact}
 

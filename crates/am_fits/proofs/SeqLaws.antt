@@ -16,11 +16,12 @@ use Rattle.am_types.specs.Operations.{max}
 use Rattle.am_types.specs.Members.{Member, member}
 use Rattle.am_types.specs.Ancestors.{ancestors}
 use Rattle.am_types.specs.Verdicts.{has_seq, seq_clash, seq_gap, start_low}
-use Rattle.am_types.proofs.Ancestry.{Contains-filter, Contains-from_filter, ancestors_named}
-use Rattle.am_types.proofs.Counters.{find_none}
-use Rattle.am_types.proofs.DistinctIds.{ancestor_is_member, ancestors_trans}
-use Rattle.am_types.proofs.Growth.{same_answers, among_at}
-use Rattle.am_types.proofs.Listed.{Facts, same_bytes-true}
+use Rattle.am_laws.proofs.Ancestry.{Contains-filter, Contains-from_filter, ancestors_named}
+use Rattle.am_laws.proofs.Counters.{find_none}
+use Rattle.am_laws.proofs.DistinctIds.{ancestor_is_member, ancestors_trans}
+use Rattle.am_laws.proofs.Growth.{same_answers, among_at}
+use Rattle.am_types.proofs.Orders.{same_bytes-true}
+use Rattle.am_laws.proofs.Listed.{Facts}
 use Rattle.am_types.proofs.Lists.{Contains-head, Contains-tail}
 use Rattle.am_types.proofs.Orders.{same_hash-true, same_hash_itself}
 use Rattle.am_graph.specs.declared.node.Node.{Node}

@@ -11,7 +11,7 @@ use Rattle.am_types.specs.Fine.{Fine, pred_count}
 use Rattle.am_types.specs.Members.{Member, changes}
 use Rattle.am_types.specs.ValidSets.{Valid}
 use Rattle.am_types.specs.Verdicts.{limit_passed}
-use Rattle.am_types.proofs.Rules.{keeps_rules}
+use Rattle.am_laws.proofs.Rules.{keeps_rules}
 use Rattle.am_fits.specs.declared.totals.Totals.{Totals}
 use Rattle.am_fits.specs.Sums.{totals_of, totals_with, limit_of, AreWithinLimits, IsWithinLimits}
 

@@ -11,14 +11,14 @@ use Rattle.am_types.specs.declared.Key.{Key}
 use Rattle.am_types.specs.declared.Key.TheVariants.{Name, Head, Elem}
 use Rattle.am_types.specs.declared.Change.{Change}
 use Rattle.am_types.specs.Actions as actions
-use Rattle.am_types.specs.Laws.{bad_at}
+use Rattle.am_laws.specs.Laws.{bad_at}
 use Rattle.am_types.specs.Members.{Member, changes}
 use Rattle.am_types.specs.Ancestors.{ancestors}
 use Rattle.am_types.specs.Operations.{Operation, operations, all_operations, slot}
 use Rattle.am_types.specs.References.{has_good_references, object_takes, element_known, pred_known, first_bad}
 use Rattle.am_types.specs.Same.{same_id, same_object, same_key}
-use Rattle.am_types.proofs.FirstBad.{finds_first_bad}
-use Rattle.am_types.proofs.Listed.{Facts}
+use Rattle.am_laws.proofs.FirstBad.{finds_first_bad}
+use Rattle.am_laws.proofs.Listed.{Facts}
 use Rattle.am_graph.specs.declared.reach.Reach.{Reach}
 use Rattle.am_graph.specs.Clocks.{covers, IsClockOf}
 use Rattle.am_fits.specs.Facts.{Fact, fact_of, facts_of}

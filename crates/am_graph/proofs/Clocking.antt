@@ -9,8 +9,8 @@ use Rattle.am_types.specs.declared.OpId.{OpId}
 use Rattle.am_types.specs.Same.{same_bytes}
 use Rattle.am_types.specs.Operations.{max}
 use Rattle.am_types.specs.Members.{Member}
-use Rattle.am_types.proofs.Ancestry.{Contains-filter, Contains-from_filter}
-use Rattle.am_types.proofs.Listed.{same_bytes-true}
+use Rattle.am_laws.proofs.Ancestry.{Contains-filter, Contains-from_filter}
+use Rattle.am_types.proofs.Orders.{same_bytes-true}
 use Rattle.am_graph.specs.declared.reach.Reach.{Reach}
 use Rattle.am_graph.specs.Clocks.{Covers, IsClockOf, covers, reach_of}
 use Rattle.am_graph.specs.Reaches.{number, end, unreached, reach_at, IsTableOf}

@@ -5,7 +5,7 @@ use Rattle.std.proofs.lemmas.Bool.{cases_Bool, both_ways}
 use Rattle.std.proofs.lemmas.List.{get_or-map, length-map, length-take, get_or-take}
 use Rattle.am_types.specs.declared.Hash.{Hash}
 use Rattle.am_types.specs.Same.{same_hash}
-use Rattle.am_types.proofs.Growth.{found_among}
+use Rattle.am_laws.proofs.Growth.{found_among}
 use Rattle.am_types.proofs.Orders.{same_hash_itself}
 use Rattle.am_graph.specs.declared.node.Node.{Node}
 use Rattle.am_graph.specs.declared.parts.Mark.{Mark}

@@ -5,8 +5,8 @@ use Rattle.am_types.specs.declared.Hash.{Hash}
 use Rattle.am_types.specs.Operations.{Operation, operations, all_operations, max}
 use Rattle.am_types.specs.Members.{Member, changes}
 use Rattle.am_types.specs.Ancestors.{ancestors}
-use Rattle.am_types.proofs.Listed.{Facts}
-use Rattle.am_types.proofs.DistinctIds.{numbered_at, later_starts_above, earlier, ancestors_trans, ancestor_is_member}
+use Rattle.am_laws.proofs.Listed.{Facts}
+use Rattle.am_laws.proofs.DistinctIds.{numbered_at, later_starts_above, earlier, ancestors_trans, ancestor_is_member}
 use Rattle.am_graph.specs.Clocks.{Covers}
 
 -- the change of an operation is among these

@@ -5,7 +5,7 @@ use Rattle.am_types.specs.declared.Change.{Change}
 use Rattle.am_types.specs.Order.{hash_cmp, among}
 use Rattle.am_types.specs.Members.{Member}
 use Rattle.am_types.specs.Canonical.{largest, dependencies, depth_within, depth}
-use Rattle.am_types.proofs.Ancestry.{Contains-filter, Contains-from_filter}
+use Rattle.am_laws.proofs.Ancestry.{Contains-filter, Contains-from_filter}
 
 -- ---- lists
 

@@ -6,8 +6,8 @@ use Rattle.am_types.specs.Order.{hash_cmp, among}
 use Rattle.am_types.specs.Members.{Member}
 use Rattle.am_types.specs.Ancestors.{is_named, ancestor_hashes, ancestors}
 use Rattle.am_types.proofs.Orders.{same_hash_itself}
-use Rattle.am_types.proofs.Ancestry.{ancestors_closed, ancestors_named, ancestors_least, Contains-from_filter}
-use Rattle.am_types.proofs.Growth.{among_at, found_among}
+use Rattle.am_laws.proofs.Ancestry.{ancestors_closed, ancestors_named, ancestors_least, Contains-from_filter}
+use Rattle.am_laws.proofs.Growth.{among_at, found_among}
 use Rattle.std.proofs.lemmas.Bool.{or_left}
 
 -- what holds of the members with each ancestor's hash holds of each ancestor

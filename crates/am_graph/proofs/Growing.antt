@@ -15,10 +15,11 @@ use Rattle.am_types.specs.Members.{Member, holds}
 use Rattle.am_types.specs.Ancestors.{ancestors}
 use Rattle.am_types.specs.Canonical.{dependencies, depth}
 use Rattle.am_types.proofs.Orders.{hash_total, same_hash_itself}
-use Rattle.am_types.proofs.Growth.{ancestors_stay, found_among}
-use Rattle.am_types.proofs.DistinctIds.{ancestor_is_member, ancestors_trans}
-use Rattle.am_types.proofs.Ancestry.{ancestors_named}
-use Rattle.am_types.proofs.Listed.{holds_own, same_bytes-true}
+use Rattle.am_laws.proofs.Growth.{ancestors_stay, found_among}
+use Rattle.am_laws.proofs.DistinctIds.{ancestor_is_member, ancestors_trans}
+use Rattle.am_laws.proofs.Ancestry.{ancestors_named}
+use Rattle.am_types.proofs.Orders.{same_bytes-true}
+use Rattle.am_laws.proofs.Listed.{holds_own}
 use Rattle.std.proofs.lemmas.List.Quantifiers.{position-Some}
 use Rattle.std.proofs.lemmas.Cmp.{nat_list_eq_equiv}
 use Rattle.am_graph.specs.declared.node.Node.{Node}

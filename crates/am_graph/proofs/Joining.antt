@@ -8,7 +8,7 @@ use Rattle.std.proofs.lemmas.List.Folds.{list_any-append}
 use Rattle.am_types.specs.declared.Hash.{Hash}
 use Rattle.am_types.specs.Order.{hash_cmp, same, among}
 use Rattle.am_types.specs.Same.{same_hash}
-use Rattle.am_types.proofs.Growth.{found_among}
+use Rattle.am_laws.proofs.Growth.{found_among}
 use Rattle.am_types.proofs.Orders.{same_hash-true, same_hash_itself}
 use Rattle.am_graph.specs.declared.node.Node.{Node}
 use Rattle.am_graph.specs.Graphs.{names, is_held, missing, IsSound}

@@ -5,7 +5,7 @@ use Rattle.std.proofs.lemmas.Bool.{cases_Bool, cases_lt, lt-ltb, le-ltb, and_par
 use Rattle.am_types.specs.declared.Hash.{Hash}
 use Rattle.am_types.specs.Same.{same_bytes}
 use Rattle.am_types.specs.Members.{Member}
-use Rattle.am_types.proofs.Listed.{same_bytes-true}
+use Rattle.am_types.proofs.Orders.{same_bytes-true}
 use Rattle.am_graph.specs.declared.node.Node.{Node}
 use Rattle.am_graph.specs.declared.reach.Reach.{Reach}
 use Rattle.am_graph.specs.Graphs.{having}

@@ -5,7 +5,7 @@ use Rattle.std.proofs.lemmas.Cmp.{nat_list_eq_equiv}
 use lib.Pointwise.{pointwise}
 use Rattle.am_types.specs.contracts.hash.HashPartialEq.TheImpl as equality
 use Rattle.am_types.specs.declared.Hash.{Hash}
-use Rattle.am_types.proofs.Listed.{same_bytes-true}
+use Rattle.am_types.proofs.Orders.{same_bytes-true}
 use Rattle.am_graph.specs.declared.node.Node.{Node}
 use Rattle.am_graph.specs.declared.fault.Added.TheVariants.{Same, Clash}
 use Rattle.am_graph.specs.Graphs.{Answers, find_node, is_held, same_node}

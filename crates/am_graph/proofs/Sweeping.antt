@@ -9,8 +9,8 @@ use Rattle.am_types.specs.contracts.hash.HashPartialEq.TheImpl as equality
 use Rattle.am_types.specs.declared.Hash.{Hash}
 use Rattle.am_types.specs.Order.{hash_cmp, same, among}
 use Rattle.am_types.proofs.Orders.{same_hash-true, same_hash_itself}
-use Rattle.am_types.proofs.Ancestry.{ancestors_named}
-use Rattle.am_types.proofs.Growth.{among_at}
+use Rattle.am_laws.proofs.Ancestry.{ancestors_named}
+use Rattle.am_laws.proofs.Growth.{among_at}
 use Rattle.am_graph.specs.declared.node.Node.{Node}
 use Rattle.am_graph.specs.Graphs.{names, is_held, IsSound}
 use Rattle.am_graph.proofs.Swept.{Within, DoneFrom, within_more}

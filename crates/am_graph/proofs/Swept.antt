@@ -6,8 +6,8 @@ use Rattle.am_types.specs.declared.Hash.{Hash}
 use Rattle.am_types.specs.Order.{same}
 use Rattle.am_types.specs.Members.{Member}
 use Rattle.am_types.specs.Ancestors.{is_named, ancestor_hashes, ancestors}
-use Rattle.am_types.proofs.Ancestry.{ancestors_closed, ancestors_least, Contains-from_filter}
-use Rattle.am_types.proofs.Growth.{among_at, found_among, same_answers}
+use Rattle.am_laws.proofs.Ancestry.{ancestors_closed, ancestors_least, Contains-from_filter}
+use Rattle.am_laws.proofs.Growth.{among_at, found_among, same_answers}
 use Rattle.am_graph.specs.declared.node.Node.{Node}
 use Rattle.am_graph.specs.Graphs.{nodes, node_of, ForSet, TellsAncestors}
 

@@ -3,8 +3,8 @@ use Rattle.std.proofs.Common.{◌≡◌, List, true, subst, All, Contains, get_o
 use Rattle.std.proofs.lemmas.List.Sorted.{Contains-permutation, IsPermutation-sym}
 use Rattle.am_types.specs.Members.{Member, holds}
 use Rattle.am_types.specs.ValidSets.{Valid}
-use Rattle.am_types.proofs.Agreement.{held_member, ancestors_shared}
-use Rattle.am_types.proofs.Listed.{Facts, listed, holds_own}
+use Rattle.am_laws.proofs.Agreement.{held_member, ancestors_shared}
+use Rattle.am_laws.proofs.Listed.{Facts, listed, holds_own}
 
 pub valid_facts : (C : List Member) → Valid C → Facts C
 valid_facts C v = record {

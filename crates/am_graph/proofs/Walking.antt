@@ -7,7 +7,7 @@ use Rattle.am_types.specs.declared.Hash.{Hash}
 use Rattle.am_types.specs.Order.{hash_cmp, among}
 use Rattle.am_types.specs.Members.{Member}
 use Rattle.am_types.specs.Ancestors.{ancestors}
-use Rattle.am_types.proofs.Ancestry.{ancestors_named, ancestors_closed}
+use Rattle.am_laws.proofs.Ancestry.{ancestors_named, ancestors_closed}
 use Rattle.am_graph.specs.declared.reach.Reach.{Reach}
 use Rattle.am_graph.specs.Graphs.{nodes}
 use Rattle.am_graph.specs.Reaches.{number, end, unreached, reach_at, higher, Raised, Merged, IsBelow, Attained, IsTableOf}

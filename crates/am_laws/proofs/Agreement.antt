@@ -4,7 +4,7 @@ use Rattle.std.specs.List.{list_any, list_all, flat_map, find}
 use Rattle.std.proofs.lemmas.Bool.{cases_Bool, both_ways}
 use Rattle.std.proofs.lemmas.List.Elements.{All-contains}
 use Rattle.std.proofs.lemmas.List.Folds.{list_any-append, Any-from_list_any, list_any-from_Any}
-use Rattle.am_types.specs.Records.{Hash, Change, ObjId, Root, Made, Key, Name, Head, Elem, StartLow, BadReference}
+use Rattle.am_laws.specs.Records.{Hash, Change, ObjId, Root, Made, Key, Name, Head, Elem, StartLow, BadReference}
 use Rattle.am_types.specs.Order.{hash_cmp, same}
 use Rattle.am_types.specs.Operations.{Operation, operations, all_operations, slot, max}
 use Rattle.am_types.specs.Members.{Member, changes, holds}
@@ -14,8 +14,8 @@ use Rattle.am_types.specs.Verdicts.{seq_gap, start_low, bad_reference, has_seq}
 use Rattle.am_types.specs.Actions as actions
 use Rattle.am_types.specs.Same.{same_id, same_object, same_key}
 use Rattle.am_types.proofs.Orders.{same_hash-true}
-use Rattle.am_types.proofs.Ancestry.{ancestors_closed, ancestors_named, ancestors_least, Contains-from_filter}
-use Rattle.am_types.proofs.Growth.{among_at, found_among, same_answers}
+use Rattle.am_laws.proofs.Ancestry.{ancestors_closed, ancestors_named, ancestors_least, Contains-from_filter}
+use Rattle.am_laws.proofs.Growth.{among_at, found_among, same_answers}
 
 -- ---- the ancestors
 

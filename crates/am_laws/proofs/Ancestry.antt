@@ -6,12 +6,12 @@ use Rattle.std.proofs.lemmas.Bool.{cases_Bool, both_ways, or_left, or_right}
 use Rattle.std.proofs.lemmas.List.Elements.{Contains-get_or, All-contains, All-contains_itself, All-filter, All-append, All-weaker, All-cons, All-head, All-tail, All-nil, filter_passes, filter_agree}
 use Rattle.std.proofs.lemmas.List.Folds.{list_any-append}
 use Rattle.std.proofs.lemmas.Map.Views.{Contains-from_any}
-use Rattle.am_types.specs.Records.{Hash}
+use Rattle.am_laws.specs.Records.{Hash}
 use Rattle.am_types.specs.Order.{hash_cmp, same, among}
 use Rattle.am_types.specs.Members.{Member}
 use Rattle.am_types.specs.Ancestors.{members, with_deps, ancestor_hashes, ancestors}
 use Rattle.am_types.proofs.Orders.{same_hash-true}
-use Rattle.am_types.proofs.Iterated.{iterate-rests}
+use Rattle.am_laws.proofs.Iterated.{iterate-rests}
 
 -- ---- filters
 

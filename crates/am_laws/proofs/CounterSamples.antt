@@ -1,6 +1,6 @@
 -- A counter at all heads, and the document of its changes.
 use Rattle.std.proofs.Common.{ℤ, ◌≡◌, List, [], ◌∷◌, refl, Some, None, pos, map}
-use Rattle.am_types.specs.Records.{Hash}
+use Rattle.am_laws.specs.Records.{Hash}
 use Rattle.am_types.specs.Numbers.{signed_of}
 use Rattle.am_types.specs.Values.{number_of}
 use Rattle.am_types.specs.Operations.{all_operations}
@@ -10,8 +10,8 @@ use Rattle.am_types.specs.Replay.{replay}
 use Rattle.am_types.specs.Rows.{rows}
 use Rattle.am_types.specs.Canonical.{order, depth}
 use Rattle.am_types.specs.Documents.{table}
-use Rattle.am_types.proofs.SampleHashes.{h_k1, h_k2, h_k3, h_k4, h_k5, h_k6}
-use Rattle.am_types.proofs.Samples.{k1, k2, k3, k4, k5, k6, id, aa, bb, cc, value}
+use Rattle.am_laws.proofs.SampleHashes.{h_k1, h_k2, h_k3, h_k4, h_k5, h_k6}
+use Rattle.am_laws.proofs.Samples.{k1, k2, k3, k4, k5, k6, id, aa, bb, cc, value}
 
 abbrev all : List Member
 all = k4 ∷ k3 ∷ k2 ∷ k1 ∷ []

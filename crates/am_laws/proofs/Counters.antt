@@ -4,15 +4,15 @@ use Rattle.std.specs.List.{list_any, find}
 use Rattle.std.proofs.lemmas.Bool.{cases_Bool, both_ways, and_from, leb-false, false_from_ne_true}
 use Rattle.std.proofs.lemmas.List.Elements.{All-contains, All-cons, All-nil}
 use Rattle.std.proofs.lemmas.List.Folds.{list_any-from_Any}
-use Rattle.am_types.specs.Records.{Hash, Change, StartLow}
+use Rattle.am_laws.specs.Records.{Hash, Change, StartLow}
 use Rattle.am_types.specs.Order.{hash_cmp, same, among}
 use Rattle.am_types.specs.Operations.{max}
 use Rattle.am_types.specs.Members.{Member}
 use Rattle.am_types.specs.Ancestors.{is_named, ancestor_hashes, ancestors}
 use Rattle.am_types.specs.Verdicts.{start_low}
 use Rattle.am_types.proofs.Orders.{same_hash_itself}
-use Rattle.am_types.proofs.Ancestry.{ancestors_least, ancestors_named, Contains-from_filter}
-use Rattle.am_types.proofs.Growth.{among_at, found_among}
+use Rattle.am_laws.proofs.Ancestry.{ancestors_least, ancestors_named, Contains-from_filter}
+use Rattle.am_laws.proofs.Growth.{among_at, found_among}
 
 -- each dependency of c ends before c starts
 abbrev pub StartsAfter : List Member → Change → Type 0

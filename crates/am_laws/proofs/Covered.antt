@@ -4,21 +4,21 @@ use Rattle.std.proofs.lemmas.Bool.{cases_Bool, cases_order, and_parts, and_from,
 use Rattle.std.proofs.lemmas.Cmp.{nat_list_eq_equiv}
 use Rattle.std.proofs.lemmas.List.Elements.{filter-append}
 use Rattle.std.proofs.lemmas.List.Folds.{Any-from_list_any, list_any-from_Any}
-use Rattle.am_types.specs.Records.{OpId, Hash, Key, Name, Head, Elem}
+use Rattle.am_laws.specs.Records.{OpId, Hash, Key, Name, Head, Elem}
 use Rattle.am_types.specs.Same.{same_bytes, same_id, same_object}
 use Rattle.am_types.specs.Operations.{Operation, operations, all_operations, max}
 use Rattle.am_types.specs.Members.{Member, changes}
 use Rattle.am_types.specs.Ancestors.{is_named, ancestor_hashes, ancestors}
 use Rattle.am_types.specs.References.{element_known}
 use Rattle.am_types.proofs.Orders.{same_id-true}
-use Rattle.am_types.proofs.Ancestry.{Contains-filter, Contains-from_filter}
-use Rattle.am_types.proofs.Listed.{same_bytes-true}
-use Rattle.am_types.proofs.DistinctIds.{ancestors_trans, earlier, later_starts_above, operation_of}
+use Rattle.am_laws.proofs.Ancestry.{Contains-filter, Contains-from_filter}
+use Rattle.am_types.proofs.Orders.{same_bytes-true}
+use Rattle.am_laws.proofs.DistinctIds.{ancestors_trans, earlier, later_starts_above, operation_of}
 use Rattle.am_types.specs.Clocks.{covers}
-use Rattle.am_types.proofs.Growth.{same_answers}
+use Rattle.am_laws.proofs.Growth.{same_answers}
 use Rattle.am_types.proofs.Lists.{Contains-head, Contains-tail}
 use Rattle.am_types.specs.Elements.{HasReference, part, RespectsReferences}
-use Rattle.am_types.proofs.Grounds.{Grounds, Placed, placed, counter_bounds}
+use Rattle.am_laws.proofs.Grounds.{Grounds, Placed, placed, counter_bounds}
 
 pub filter_whole : {X : Type 0} (p : X → Bool) (xs : List X) → ((x : X) → Contains xs x → p x ≡ true) → filter p xs ≡ xs
 filter_whole p [] h = refl

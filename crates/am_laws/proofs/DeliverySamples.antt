@@ -1,13 +1,13 @@
 -- Deliveries and verdicts.
 use Rattle.std.proofs.Common.{◌≡◌, [], ◌∷◌, refl}
-use Rattle.am_types.specs.declared.verdict.Why.TheVariants as reasons
+use Rattle.am_types.specs.declared.Why.TheVariants as reasons
 use Rattle.am_types.specs.Actions as actions
-use Rattle.am_types.specs.Records.{Root, Name, Fits, SeqClash, SeqGap, StartLow, BadReference}
+use Rattle.am_laws.specs.Records.{Root, Name, Fits, SeqClash, SeqGap, StartLow, BadReference}
 use Rattle.am_types.specs.Ancestors.{ancestors}
 use Rattle.am_types.specs.Verdicts.{verdict}
 use Rattle.am_types.specs.Deliver.{deliver, settle, after}
-use Rattle.am_types.proofs.SampleHashes.{h_a1, h_a1x}
-use Rattle.am_types.proofs.Samples.{a1, a1x, a2, k1, k2, k3, k4, k5, k6, aa, id, op, value, change}
+use Rattle.am_laws.proofs.SampleHashes.{h_a1, h_a1x}
+use Rattle.am_laws.proofs.Samples.{a1, a1x, a2, k1, k2, k3, k4, k5, k6, aa, id, op, value, change}
 
 -- ---- one actor, one seq, two changes: the first one stays
 

@@ -4,15 +4,15 @@ use Rattle.std.proofs.lemmas.List.{append-nil, length-append}
 use Rattle.std.proofs.lemmas.List.Elements.{All-contains, Contains-push_cases, Contains-append_left, Contains-append_right}
 use Rattle.std.proofs.lemmas.List.Sorted.{IsPermutation-map, IsPermutation-sym, length_permutation, Contains-permutation}
 use Rattle.std.proofs.lemmas.List.Sums.{AllPass-from_list_all}
-use Rattle.am_types.specs.Records.{Change}
+use Rattle.am_laws.specs.Records.{Change}
 use Rattle.am_types.specs.Order.{hash_cmp, among}
 use Rattle.am_types.specs.Members.{Member, holds}
 use Rattle.am_types.specs.ValidSets.{Valid, JoinInTurn, Joins}
 use Rattle.am_types.specs.Canonical.{largest, dependencies, depth_within, depth}
-use Rattle.am_types.proofs.Ancestry.{Contains-from_filter}
-use Rattle.am_types.proofs.Growth.{found_among}
-use Rattle.am_types.proofs.Agreement.{held_member}
-use Rattle.am_types.proofs.Listed.{Facts, listed}
+use Rattle.am_laws.proofs.Ancestry.{Contains-from_filter}
+use Rattle.am_laws.proofs.Growth.{found_among}
+use Rattle.am_laws.proofs.Agreement.{held_member}
+use Rattle.am_laws.proofs.Listed.{Facts, listed}
 use Rattle.am_types.proofs.Lists.{map_within}
 use Rattle.am_types.proofs.Permutations.{IsPermutation-filter}
 

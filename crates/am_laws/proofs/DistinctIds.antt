@@ -3,15 +3,15 @@ use Rattle.std.proofs.Common.{ℕ, zero, suc, ◌≡◌, ◌+◌, ◌-◌, ◌<�
 use Rattle.std.proofs.lemmas.Bool.{cases_order}
 use Rattle.std.proofs.lemmas.List.{get_or_default}
 use Rattle.std.proofs.lemmas.List.Elements.{All-contains, Contains-append_cases}
-use Rattle.am_types.specs.Records.{Hash, Op}
+use Rattle.am_laws.specs.Records.{Hash, Op}
 use Rattle.am_types.specs.Operations.{Operation, numbered, operations, all_operations, max, OneOperationPerId}
 use Rattle.am_types.specs.Members.{Member, changes}
 use Rattle.am_types.specs.Ancestors.{is_named, ancestor_hashes, ancestors}
 use Rattle.am_types.specs.ValidSets.{JoinInTurn}
-use Rattle.am_types.proofs.Growth.{among_at, found_among}
-use Rattle.am_types.proofs.Ancestry.{ancestors_closed, ancestors_least, Contains-from_filter}
-use Rattle.am_types.proofs.Counters.{starts_after_ancestors}
-use Rattle.am_types.proofs.Listed.{Facts, listed}
+use Rattle.am_laws.proofs.Growth.{among_at, found_among}
+use Rattle.am_laws.proofs.Ancestry.{ancestors_closed, ancestors_least, Contains-from_filter}
+use Rattle.am_laws.proofs.Counters.{starts_after_ancestors}
+use Rattle.am_laws.proofs.Listed.{Facts, listed}
 
 -- an ancestor's ancestors are ancestors
 pub ancestors_trans : (C : List Member) (hs : List Hash) (p n : Member) → Contains (ancestors C hs) p → Contains (ancestors C p.change.deps) n → Contains (ancestors C hs) n

@@ -2,15 +2,15 @@
 use Rattle.std.proofs.Common.{ℕ, suc, ◌≡◌, ◌≢◌, ◌+◌, List, [], ◌∷◌, ◌++◌, get_or, sym, ap, ◌∙◌, subst, inl, inr, AllPairs, Contains, arith}
 use Rattle.std.proofs.lemmas.List.Elements.{Contains-get_or, Contains-append_cases}
 use Rattle.std.proofs.lemmas.List.Kept.{AllPairs-cons}
-use Rattle.am_types.specs.Records.{Op}
+use Rattle.am_laws.specs.Records.{Op}
 use Rattle.am_types.specs.Operations.{Operation, numbered, operations, all_operations, DistinctIds}
 use Rattle.am_types.specs.Members.{Member, changes, DistinctHashes}
 use Rattle.am_types.specs.ValidSets.{Valid}
-use Rattle.am_types.proofs.Listed.{Facts}
+use Rattle.am_laws.proofs.Listed.{Facts}
 use Rattle.am_types.proofs.Lists.{Contains-head, Contains-tail}
-use Rattle.am_types.proofs.DistinctIds.{numbered_at, operation_of, one_change}
-use Rattle.am_types.proofs.Rules.{distinct_hashes}
-use Rattle.am_types.proofs.ValidSetLaws.{grounds_valid}
+use Rattle.am_laws.proofs.DistinctIds.{numbered_at, operation_of, one_change}
+use Rattle.am_laws.proofs.Rules.{distinct_hashes}
+use Rattle.am_laws.proofs.ValidSetLaws.{grounds_valid}
 
 pub all_pairs_append : {X : Type 0} (R : X → X → Type 0) (xs ys : List X) → AllPairs R xs → AllPairs R ys → ((x y : X) → Contains xs x → Contains ys y → R x y) → AllPairs R (xs ++ ys)
 all_pairs_append R [] ys a b cross = b

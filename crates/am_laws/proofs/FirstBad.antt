@@ -6,7 +6,7 @@ use Rattle.std.proofs.lemmas.Bool.{cases_Bool, cases_order, both_ways}
 use Rattle.std.proofs.lemmas.List.{append_assoc, append-nil}
 use Rattle.am_types.specs.Operations.{Operation}
 use Rattle.am_types.specs.References.{has_good_references, first_bad}
-use Rattle.am_types.specs.Laws.{bad_at, IsLeastBad, FindsFirstBad}
+use Rattle.am_laws.specs.Laws.{bad_at, IsLeastBad, FindsFirstBad}
 
 -- what the answer says
 abbrev Tells : List Operation → List Operation → Option ℕ → Type 0

@@ -11,7 +11,7 @@ use Rattle.std.proofs.lemmas.Cmp.{tied_itself}
 use Rattle.std.proofs.lemmas.List.{append-nil}
 use Rattle.std.proofs.lemmas.List.Elements.{recursion_from_All, All-from_recursion, All-contains}
 use Rattle.std.proofs.lemmas.List.Sorted.{IsPermutation-refl, IsPermutation-sym, IsPermutation-trans, IsPermutation-cons, IsPermutation-middle, IsPermutation-append_left, Contains-permutation, All-permutation}
-use Rattle.am_types.specs.Records.{OpId, ObjId, Key, Name, Head, Elem}
+use Rattle.am_laws.specs.Records.{OpId, ObjId, Key, Name, Head, Elem}
 use Rattle.am_types.specs.Order.{id_cmp, put_in_order}
 use Rattle.am_types.specs.Same.{same_id, same_object}
 use Rattle.am_types.specs.Operations.{Operation, all_operations, operation_cmp, ascending, slot, DistinctIds}
@@ -19,18 +19,18 @@ use Rattle.am_types.specs.Members.{Member, changes}
 use Rattle.am_types.specs.ValidSets.{Valid}
 use Rattle.am_types.specs.Elements.{put_after, put_at, inserts_into, insertions, elements}
 use Rattle.am_types.specs.Places.{slot_cmp}
-use Rattle.am_types.specs.Laws.{ReferenceIsThere, FollowReferences}
+use Rattle.am_laws.specs.Laws.{ReferenceIsThere, FollowReferences}
 use Rattle.am_types.proofs.Orders.{id_total, same_id-true, same_id_itself}
-use Rattle.am_types.proofs.Ancestry.{Contains-filter, Contains-from_filter}
-use Rattle.am_types.proofs.DistinctOperations.{distinct_ids_valid}
+use Rattle.am_laws.proofs.Ancestry.{Contains-filter, Contains-from_filter}
+use Rattle.am_laws.proofs.DistinctOperations.{distinct_ids_valid}
 use Rattle.am_types.proofs.Lists.{Contains-head, Contains-tail}
 use Rattle.am_types.proofs.Permuted.{operation_total}
-use Rattle.am_types.proofs.References.{stands}
+use Rattle.am_laws.proofs.References.{stands}
 use Rattle.am_types.proofs.Rising.{Rises, Rises-sorted_by, filter-sorted_by}
 use Rattle.am_types.proofs.SameLaws.{same_object-true}
-use Rattle.am_types.proofs.SameMembers.{Contains-cons_cases}
+use Rattle.am_laws.proofs.SameMembers.{Contains-cons_cases}
 use Rattle.am_types.proofs.Sorting.{IsPermutation-sorted_by}
-use Rattle.am_types.proofs.ValidSetLaws.{grounds_valid}
+use Rattle.am_laws.proofs.ValidSetLaws.{grounds_valid}
 
 not_same : (a b : OpId) → a ≢ b → same_id a b ≡ false
 not_same a b n = elim (cases_Bool (same_id a b)) [ inl t ↦ absurd (n (same_id-true a b t)) | inr f ↦ f ]

@@ -4,7 +4,7 @@ use Rattle.std.proofs.lemmas.Bool.{cases_Bool}
 use Rattle.std.proofs.lemmas.List.{append_assoc, append-nil}
 use Rattle.std.proofs.lemmas.List.Elements.{All-cons, All-nil, Contains-push_cases, Contains-append_cases}
 use Rattle.std.proofs.lemmas.List.Sums.{AllPass-from_list_all}
-use Rattle.am_types.specs.Records.{Hash, Op, BadReference}
+use Rattle.am_laws.specs.Records.{Hash, Op, BadReference}
 use Rattle.am_types.specs.Operations.{Operation, numbered, operations, all_operations, max}
 use Rattle.am_types.specs.Fine.{Fine}
 use Rattle.am_types.specs.Members.{Member, changes, holds}
@@ -12,11 +12,11 @@ use Rattle.am_types.specs.Ancestors.{ancestors}
 use Rattle.am_types.specs.References.{has_good_references, first_bad}
 use Rattle.am_types.specs.Verdicts.{bad_reference}
 use Rattle.am_types.specs.ValidSets.{Joins, JoinInTurn}
-use Rattle.am_types.proofs.Growth.{ancestors_stay}
-use Rattle.am_types.proofs.VerdictLaws.{fits_by}
-use Rattle.am_types.proofs.Counters.{mapped_none, starts_after_ancestors}
-use Rattle.am_types.proofs.Listed.{Facts, facts_push, no_facts}
-use Rattle.am_types.proofs.DistinctIds.{ancestor_is_member, operation_of, numbered_at}
+use Rattle.am_laws.proofs.Growth.{ancestors_stay}
+use Rattle.am_laws.proofs.VerdictLaws.{fits_by}
+use Rattle.am_laws.proofs.Counters.{mapped_none, starts_after_ancestors}
+use Rattle.am_laws.proofs.Listed.{Facts, facts_push, no_facts}
+use Rattle.am_laws.proofs.DistinctIds.{ancestor_is_member, operation_of, numbered_at}
 use Rattle.am_types.proofs.Lists.{Contains-head, Contains-tail}
 
 -- ---- what a listing gives beside its facts

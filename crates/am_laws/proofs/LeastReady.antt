@@ -12,13 +12,13 @@ use Rattle.std.proofs.Common.{All}
 use Rattle.am_types.specs.Order.{hash_cmp}
 use Rattle.am_types.specs.Members.{Member, holds_deps}
 use Rattle.am_types.specs.Deliver.{Sets, ready, TakesOne}
-use Rattle.am_types.specs.Laws.{IsLeastReady}
-use Rattle.am_types.proofs.Ancestry.{Contains-filter}
-use Rattle.am_types.proofs.Listings.{ready_is}
+use Rattle.am_laws.specs.Laws.{IsLeastReady}
+use Rattle.am_laws.proofs.Ancestry.{Contains-filter}
+use Rattle.am_laws.proofs.Listings.{ready_is}
 use Rattle.am_types.proofs.Orders.{hash_total, same_hash_itself}
 use Rattle.am_types.proofs.Rising.{AboveNone, Rises, Rises-sorted_by}
-use Rattle.am_types.proofs.SameMembers.{Contains-cons_cases}
-use Rattle.am_types.proofs.SettleLaws.{by_hash}
+use Rattle.am_laws.proofs.SameMembers.{Contains-cons_cases}
+use Rattle.am_laws.proofs.SettleLaws.{by_hash}
 use Rattle.am_types.proofs.Sorting.{IsPermutation-sorted_by}
 
 hashes_total : IsTotalOrder by_hash

@@ -8,7 +8,7 @@ use Rattle.std.proofs.lemmas.List.Elements.{All-contains, All-cons, All-nil, All
 use Rattle.std.proofs.lemmas.List.Folds.{list_any-append, Any-from_list_any}
 use Rattle.std.proofs.lemmas.List.Sums.{AllPass-from_list_all}
 use Rattle.std.proofs.lemmas.Cmp.{nat_list_eq_equiv}
-use Rattle.am_types.specs.Records.{Hash, SeqClash, SeqGap}
+use Rattle.am_laws.specs.Records.{Hash, SeqClash, SeqGap}
 use Rattle.am_types.specs.Order.{hash_cmp, same, among}
 use Rattle.am_types.specs.Same.{same_bytes}
 use Rattle.am_types.specs.Operations.{max}
@@ -16,10 +16,10 @@ use Rattle.am_types.specs.Members.{Member, hashes, holds}
 use Rattle.am_types.specs.Ancestors.{ancestors}
 use Rattle.am_types.specs.Verdicts.{has_seq}
 use Rattle.am_types.specs.ValidSets.{Joins, JoinInTurn}
-use Rattle.am_types.proofs.Orders.{same_hash_itself}
-use Rattle.am_types.proofs.Growth.{ancestors_stay, found_among}
-use Rattle.am_types.proofs.VerdictLaws.{fits_by}
-use Rattle.am_types.proofs.Counters.{StartsAfter, starts_after_from, find_none, mapped_none}
+use Rattle.am_types.proofs.Orders.{same_hash_itself, same_bytes-true}
+use Rattle.am_laws.proofs.Growth.{ancestors_stay, found_among}
+use Rattle.am_laws.proofs.VerdictLaws.{fits_by}
+use Rattle.am_laws.proofs.Counters.{StartsAfter, starts_after_from, find_none, mapped_none}
 
 -- the change before m by its actor is among the ancestors of m
 abbrev pub Chained : List Member → Member → Type 0
@@ -38,12 +38,6 @@ no_gap : (a b : Bool) → then_some (a && not b) SeqGap ≡ None → a ≡ true 
 no_gap true true e h = refl
 no_gap true false e h = cc
 no_gap false b e h = absurd (both_ways false refl h)
-
-pub same_bytes-true : (xs ys : List ℕ) → same_bytes xs ys ≡ true → xs ≡ ys
-same_bytes-true [] [] e = refl
-same_bytes-true [] (y ∷ ys) e = absurd (both_ways false refl e)
-same_bytes-true (x ∷ xs) [] e = absurd (both_ways false refl e)
-same_bytes-true (x ∷ xs) (y ∷ ys) e = let b = and_parts _ _ e in λ i. eqb-true x y b.0 i ∷ same_bytes-true xs ys b.1 i
 
 pub holds_own : (C : List Member) (m : Member) → Contains C m → holds C m.hash ≡ true
 holds_own C m c = All-contains (λ m. holds C m.hash ≡ true) C m (all_held C) c

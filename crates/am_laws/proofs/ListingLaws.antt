@@ -9,7 +9,7 @@ use Rattle.std.proofs.lemmas.Cmp.{nat_cmp_total, nat_list_cmp_total, on_total, t
 use Rattle.std.proofs.lemmas.List.Elements.{All-contains_itself, filter_agree}
 use Rattle.std.proofs.lemmas.List.Sorted.{IsPermutation-map, list_any-IsPermutation}
 use Rattle.std.proofs.lemmas.Map.Lookups.{exact_bytes}
-use Rattle.am_types.specs.Records.{Hash}
+use Rattle.am_laws.specs.Records.{Hash}
 use Rattle.am_types.specs.Order.{bytes_cmp, hash_cmp, among, sorted_by}
 use Rattle.am_types.specs.Same.{same_bytes}
 use Rattle.am_types.specs.Operations.{operations, all_operations, OneOperationPerId}
@@ -20,10 +20,10 @@ use Rattle.am_types.specs.Documents.{op_actors, actors, used_actors}
 use Rattle.am_types.proofs.Orders.{hash_total, hash_exact}
 use Rattle.am_types.proofs.Sorting.{sorted_by-permutation}
 use Rattle.am_types.proofs.Permutations.{IsPermutation-filter, IsPermutation-flat_map}
-use Rattle.am_types.proofs.DistinctIds.{distinct_ids_of}
-use Rattle.am_types.proofs.Listed.{Facts}
-use Rattle.am_types.proofs.ValidSetLaws.{grounds_valid}
-use Rattle.am_types.proofs.Depths.{depth-permutation}
+use Rattle.am_laws.proofs.DistinctIds.{distinct_ids_of}
+use Rattle.am_laws.proofs.Listed.{Facts}
+use Rattle.am_laws.proofs.ValidSetLaws.{grounds_valid}
+use Rattle.am_laws.proofs.Depths.{depth-permutation}
 
 -- ---- heads
 

@@ -6,7 +6,7 @@ use Rattle.std.proofs.lemmas.List.{append_assoc, append-nil, map-append}
 use Rattle.std.proofs.lemmas.List.Folds.{list_any-append}
 use Rattle.std.proofs.lemmas.List.Elements.{All-head, All-contains, All-contains_itself, All-filter, filter_passes}
 use Rattle.std.proofs.lemmas.List.Sorted.{All-permutation}
-use Rattle.am_types.specs.Records.{Verdict, Fits}
+use Rattle.am_laws.specs.Records.{Verdict, Fits}
 use Rattle.am_types.specs.Order.{hash_cmp, same}
 use Rattle.am_types.specs.Members.{Member, hashes, holds, holds_deps}
 use Rattle.am_types.specs.Verdicts.{verdict}
@@ -15,7 +15,7 @@ use Rattle.am_types.specs.Deliver.{Waits, Sets, ready, without, admit_by, admit,
 use Rattle.std.proofs.lemmas.Cmp.{eq_by_cmp_equiv}
 use Rattle.am_types.proofs.Orders.{hash_total}
 use Rattle.am_types.proofs.Sorting.{IsPermutation-sorted_by}
-use Rattle.am_types.proofs.SettleLaws.{by_hash, first_or_none, step_idle, step_first}
+use Rattle.am_laws.proofs.SettleLaws.{by_hash, first_or_none, step_idle, step_first}
 
 -- what each admission keeps, settling keeps
 module _ (P : Sets → Type 0) (keeps : (s : Sets) (m : Member) (ms : List Member) → ready s.closed s.waiting ≡ m ∷ ms → P s → P (admit m s)) where

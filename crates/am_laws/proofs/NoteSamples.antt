@@ -7,7 +7,7 @@ use Rattle.std.proofs.Common.{ℕ, zero, suc, ◌+◌, ◌≡◌, ◌&&◌, List
 use Rattle.std.specs.Prelude.{codes}
 use Rattle.std.specs.List.{flat_map}
 use Rattle.am_types.specs.Actions as actions
-use Rattle.am_types.specs.Records.{Hash, ObjId, Root, Made, Key, Name, Head, Elem, Op, Entry}
+use Rattle.am_laws.specs.Records.{Hash, ObjId, Root, Made, Key, Name, Head, Elem, Op, Entry}
 use Rattle.am_types.specs.Same.{same_object, same_key}
 use Rattle.am_types.specs.Numbers.{signed_of}
 use Rattle.am_types.specs.Operations.{all_operations}
@@ -17,8 +17,8 @@ use Rattle.am_types.specs.Elements.{elements}
 use Rattle.am_types.specs.Replay.{replay}
 use Rattle.am_types.specs.Verdicts.{verdict}
 use Rattle.am_types.specs.Deliver.{deliver, settle}
-use Rattle.am_types.proofs.SampleHashes.{h_n1, h_n2, h_n3}
-use Rattle.am_types.proofs.Samples.{id, op, insertion, value, nothing, change, letter}
+use Rattle.am_laws.proofs.SampleHashes.{h_n1, h_n2, h_n3}
+use Rattle.am_laws.proofs.Samples.{id, op, insertion, value, nothing, change, letter}
 
 abbrev sixteen : ℕ → List ℕ
 sixteen b = b ∷ b ∷ b ∷ b ∷ b ∷ b ∷ b ∷ b ∷ b ∷ b ∷ b ∷ b ∷ b ∷ b ∷ b ∷ b ∷ []

@@ -1,12 +1,12 @@
 -- The elements of a part of some operations are those of all, without the others.
 use Rattle.std.proofs.Common.{◌≡◌, List, filter, Bool, Contains}
-use Rattle.am_types.specs.Records.{OpId, ObjId}
+use Rattle.am_laws.specs.Records.{OpId, ObjId}
 use Rattle.am_types.specs.Operations.{Operation, ascending, operation_cmp}
 use Rattle.am_types.specs.Elements.{elements, inserts_into, IsAnchored, part, RespectsReferences}
-use Rattle.am_types.proofs.Subsequence.{elements-filter}
+use Rattle.am_laws.proofs.Subsequence.{elements-filter}
 use Rattle.std.proofs.lemmas.List.Elements.{recursion_from_All}
 use Rattle.std.proofs.lemmas.List.Sorted.{Contains-permutation, IsPermutation-sym}
-use Rattle.am_types.proofs.Ancestry.{Contains-from_filter}
+use Rattle.am_laws.proofs.Ancestry.{Contains-from_filter}
 use Rattle.am_types.proofs.Lists.{all_of}
 use Rattle.am_types.proofs.Sorting.{IsPermutation-sorted_by}
 

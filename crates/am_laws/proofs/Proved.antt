@@ -1,37 +1,37 @@
 -- The laws, put together from the lemmas.
 use Rattle.std.proofs.Common.{◌≡◌, List, true, refl, ap, ◌∙◌, subst, All, Contains, get_or}
 use Rattle.std.proofs.lemmas.List.Elements.{All-contains, All-contains_itself}
-use Rattle.am_types.specs.Records.{Hash}
+use Rattle.am_laws.specs.Records.{Hash}
 use Rattle.am_types.specs.Order.{id_cmp, hash_cmp}
 use Rattle.am_types.specs.Same.{same_change}
 use Rattle.am_types.specs.Members.{Member}
 use Rattle.am_types.specs.Ancestors.{is_named, ancestor_hashes, ancestors, HasNamed, HasDependencies}
 use Rattle.am_types.specs.Clocks.{covers}
-use Rattle.am_types.specs.Laws as law
+use Rattle.am_laws.specs.Laws as law
 use Rattle.am_types.proofs.Orders.{id_total, id_exact, hash_total, hash_exact}
 use Rattle.am_types.proofs.Sorting.{sorted_by-permutation, IsPermutation-sorted_by}
 use Rattle.am_types.proofs.Rising.{Rises-sorted_by, IsSorted-rises}
 use Rattle.am_types.proofs.Permuted.{ascending-permutation}
 use Rattle.am_types.proofs.NumberLaws.{unsigned_is_shortest, signed_is_shortest}
 use Rattle.am_types.proofs.SameLaws.{same_change-true, change_itself}
-use Rattle.am_types.proofs.Ancestry.{ancestors_named, ancestors_closed, ancestors_least, Contains-from_filter}
-use Rattle.am_types.proofs.Growth.{among_at, found_among, ancestors_stay}
-use Rattle.am_types.proofs.VerdictLaws.{fits_by, fits_from, answers_first}
-use Rattle.am_types.proofs.FirstBad.{finds_first_bad}
-use Rattle.am_types.proofs.References.{refers, stands}
-use Rattle.am_types.proofs.Following.{follow_references}
-use Rattle.am_types.proofs.SettleLaws.{settle_settles, settle_idle, settle_taken}
-use Rattle.am_types.proofs.Listings.{settle_sound}
-use Rattle.am_types.proofs.ReadsAlike as listing
-use Rattle.am_types.proofs.SharedAncestors as shared
-use Rattle.am_types.proofs.LeastReady.{takes_least}
-use Rattle.am_types.proofs.Depths as depths
-use Rattle.am_types.proofs.Parts.{elements_part}
-use Rattle.am_types.proofs.Covered.{operations_part, anchored}
-use Rattle.am_types.proofs.ValidSetLaws.{grounds_valid}
-use Rattle.am_types.proofs.DistinctIds.{ancestor_is_member}
-use Rattle.am_types.proofs.DistinctOperations.{distinct_ids_valid}
-use Rattle.am_types.proofs.Rules.{keeps_rules}
+use Rattle.am_laws.proofs.Ancestry.{ancestors_named, ancestors_closed, ancestors_least, Contains-from_filter}
+use Rattle.am_laws.proofs.Growth.{among_at, found_among, ancestors_stay}
+use Rattle.am_laws.proofs.VerdictLaws.{fits_by, fits_from, answers_first}
+use Rattle.am_laws.proofs.FirstBad.{finds_first_bad}
+use Rattle.am_laws.proofs.References.{refers, stands}
+use Rattle.am_laws.proofs.Following.{follow_references}
+use Rattle.am_laws.proofs.SettleLaws.{settle_settles, settle_idle, settle_taken}
+use Rattle.am_laws.proofs.Listings.{settle_sound}
+use Rattle.am_laws.proofs.ReadsAlike as listing
+use Rattle.am_laws.proofs.SharedAncestors as shared
+use Rattle.am_laws.proofs.LeastReady.{takes_least}
+use Rattle.am_laws.proofs.Depths as depths
+use Rattle.am_laws.proofs.Parts.{elements_part}
+use Rattle.am_laws.proofs.Covered.{operations_part, anchored}
+use Rattle.am_laws.proofs.ValidSetLaws.{grounds_valid}
+use Rattle.am_laws.proofs.DistinctIds.{ancestor_is_member}
+use Rattle.am_laws.proofs.DistinctOperations.{distinct_ids_valid}
+use Rattle.am_laws.proofs.Rules.{keeps_rules}
 use Rattle.am_types.specs.Elements.{elements}
 
 pub orders_are_strict : law.OrdersAreStrict

@@ -4,11 +4,11 @@ use Rattle.am_types.specs.Operations.{all_operations}
 use Rattle.am_types.specs.Members.{Member, changes}
 use Rattle.am_types.specs.ValidSets.{Valid}
 use Rattle.am_types.specs.Documents.{index, metas, unless_empty, table}
-use Rattle.am_types.specs.Laws.{ReadsAlike}
+use Rattle.am_laws.specs.Laws.{ReadsAlike}
 use Rattle.am_types.proofs.Permuted.{elements-permutation, replay-permutation, rows-permutation}
-use Rattle.am_types.proofs.ValidSetLaws.{grounds_valid}
-use Rattle.am_types.proofs.ListingLaws.{heads-permutation, order-permutation, used_actors-permutation, operations-permutation, one_per_id}
-use Rattle.am_types.proofs.SharedAncestors.{listings_see_alike}
+use Rattle.am_laws.proofs.ValidSetLaws.{grounds_valid}
+use Rattle.am_laws.proofs.ListingLaws.{heads-permutation, order-permutation, used_actors-permutation, operations-permutation, one_per_id}
+use Rattle.am_laws.proofs.SharedAncestors.{listings_see_alike}
 
 pub reads_alike : (C D : List Member) → Valid C → IsPermutation C D → ReadsAlike C D
 unfolding table

@@ -6,7 +6,7 @@ use Rattle.std.specs.declared.cmp.Ordering.TheVariants.{Less}
 use Rattle.std.proofs.lemmas.Bool.{and_parts, and_from}
 use Rattle.std.proofs.lemmas.List.Folds.{Any-from_list_any}
 use Rattle.std.proofs.lemmas.List.Elements.{All-get_or, Contains-append_left, Contains-append_right}
-use Rattle.am_types.specs.Records.{OpId, Key, Name, Head, Elem}
+use Rattle.am_laws.specs.Records.{OpId, Key, Name, Head, Elem}
 use Rattle.am_types.specs.Order.{id_cmp}
 use Rattle.am_types.specs.Same.{same_id, same_object}
 use Rattle.am_types.specs.Operations.{Operation, operations, all_operations}
@@ -14,11 +14,11 @@ use Rattle.am_types.specs.Fine.{FineOp, IsListPlace}
 use Rattle.am_types.specs.Members.{Member, changes}
 use Rattle.am_types.specs.Ancestors.{ancestors}
 use Rattle.am_types.specs.References.{element_known}
-use Rattle.am_types.specs.Laws.{IsReference, ReferenceIsThere}
+use Rattle.am_laws.specs.Laws.{IsReference, ReferenceIsThere}
 use Rattle.am_types.proofs.Orders.{same_id-true}
-use Rattle.am_types.proofs.DistinctIds.{ancestor_is_member, numbered_at, operation_of}
-use Rattle.am_types.proofs.Grounds.{Grounds, placed}
-use Rattle.am_types.proofs.SameMembers.{Contains-cons_cases}
+use Rattle.am_laws.proofs.DistinctIds.{ancestor_is_member, numbered_at, operation_of}
+use Rattle.am_laws.proofs.Grounds.{Grounds, placed}
+use Rattle.am_laws.proofs.SameMembers.{Contains-cons_cases}
 
 -- an operation of a member is one of the set
 pub operation_in : (C : List Member) (m : Member) (x : Operation) → Contains C m → Contains (operations m.change) x → Contains (all_operations (changes C)) x

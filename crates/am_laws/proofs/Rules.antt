@@ -6,21 +6,21 @@ use Rattle.std.proofs.lemmas.List.Elements.{Contains-get_or}
 use Rattle.std.proofs.lemmas.List.Kept.{AllPairs-cons}
 use Rattle.std.proofs.lemmas.List.Sums.{sum_by-cons, sum_by-append, list_all-from_AllPass}
 use Rattle.std.proofs.lemmas.List.Sorted.{IsPermutation-sym, IsPermutation-map, IsPermutation-middle, Contains-permutation, length_permutation, sum_by-IsPermutation}
-use Rattle.am_types.specs.Records.{Hash, Change, Full, Changes, Operations, Preds, Links}
+use Rattle.am_laws.specs.Records.{Hash, Change, Full, Changes, Operations, Preds, Links}
 use Rattle.am_types.specs.Order.{hash_cmp, same}
 use Rattle.am_types.specs.Fine.{pred_count}
 use Rattle.am_types.specs.Members.{Member, changes, holds, holds_deps, DistinctHashes}
 use Rattle.am_types.specs.Verdicts.{first_some, above, limit_passed}
 use Rattle.am_types.specs.ValidSets.{JoinInTurn, Valid}
 use Rattle.am_types.specs.Deliver.{MayCome}
-use Rattle.am_types.specs.Laws.{KeepsRules}
+use Rattle.am_laws.specs.Laws.{KeepsRules}
 use Rattle.am_types.proofs.Orders.{same_hash-true, same_hash_itself}
-use Rattle.am_types.proofs.VerdictLaws.{fits_by}
-use Rattle.am_types.proofs.Counters.{mapped_none}
-use Rattle.am_types.proofs.Listed.{holds_own}
+use Rattle.am_laws.proofs.VerdictLaws.{fits_by}
+use Rattle.am_laws.proofs.Counters.{mapped_none}
+use Rattle.am_laws.proofs.Listed.{holds_own}
 use Rattle.am_types.proofs.Lists.{all_of}
-use Rattle.am_types.proofs.SameMembers.{Contains-cons_cases}
-use Rattle.am_types.proofs.ValidSetLaws.{grounds_valid}
+use Rattle.am_laws.proofs.SameMembers.{Contains-cons_cases}
+use Rattle.am_laws.proofs.ValidSetLaws.{grounds_valid}
 
 -- ---- hashes
 

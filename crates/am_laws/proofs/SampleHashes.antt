@@ -1,6 +1,6 @@
 -- The hashes of the changes of the worked examples, as SHA-256 gives them of their chunks.
 use Rattle.std.proofs.Common.{[], ◌∷◌}
-use Rattle.am_types.specs.Records.{Hash}
+use Rattle.am_laws.specs.Records.{Hash}
 
 abbrev pub h_a1 : Hash
 h_a1 = record {

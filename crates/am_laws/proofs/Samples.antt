@@ -6,9 +6,9 @@
 --     k5            sets a counter to 2 ^ 63 - 1; k6 adds 5
 use Rattle.std.proofs.Common.{ℕ, List, [], ◌∷◌, true, false, None, pos}
 use Rattle.am_types.specs.Actions as actions
-use Rattle.am_types.specs.Records.{OpId, Hash, ObjId, Root, Made, Key, Name, Head, Elem, RawValue, Op, Change}
+use Rattle.am_laws.specs.Records.{OpId, Hash, ObjId, Root, Made, Key, Name, Head, Elem, RawValue, Op, Change}
 use Rattle.am_types.specs.Members.{Member}
-use Rattle.am_types.proofs.SampleHashes.{h_a1, h_a1x, h_a2, h_t1, h_t2, h_t3, h_k1, h_k2, h_k3, h_k4, h_k5, h_k6}
+use Rattle.am_laws.proofs.SampleHashes.{h_a1, h_a1x, h_a2, h_t1, h_t2, h_t3, h_k1, h_k2, h_k3, h_k4, h_k5, h_k6}
 
 -- ---- how they are written
 

@@ -7,7 +7,7 @@ use Rattle.std.proofs.lemmas.Bool.{cases_Bool, both_ways, or_left, or_right}
 use Rattle.std.proofs.lemmas.List.Elements.{All-filter, All-cons, All-head}
 use Rattle.std.proofs.lemmas.List.Sorted.{All-permutation}
 use Rattle.std.proofs.lemmas.List.{nil_from_length}
-use Rattle.am_types.specs.Records.{Hash, Verdict, Fits}
+use Rattle.am_laws.specs.Records.{Hash, Verdict, Fits}
 use Rattle.am_types.specs.Order.{hash_cmp, same}
 use Rattle.am_types.specs.Members.{Member, holds_deps}
 use Rattle.am_types.specs.Verdicts.{verdict}

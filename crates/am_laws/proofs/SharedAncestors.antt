@@ -3,24 +3,24 @@ use Rattle.std.proofs.Common.{◌≡◌, ◌≢◌, List, true, refl, subst, All
 use Rattle.std.proofs.lemmas.List.Elements.{All-contains}
 use Rattle.std.proofs.lemmas.List.Kept.{AllPairs-filter}
 use Rattle.std.proofs.lemmas.List.Sorted.{IsPermutation-sym, IsPermutation-trans, Contains-permutation}
-use Rattle.am_types.specs.Records.{Hash}
+use Rattle.am_laws.specs.Records.{Hash}
 use Rattle.am_types.specs.Order.{hash_cmp, among}
 use Rattle.am_types.specs.Operations.{all_operations}
 use Rattle.am_types.specs.Members.{Member, changes, holds, DistinctHashes}
 use Rattle.am_types.specs.Ancestors.{is_named, ancestor_hashes, ancestors}
 use Rattle.am_types.specs.ValidSets.{Valid}
-use Rattle.am_types.specs.Laws.{SeesAlike}
-use Rattle.am_types.proofs.Agreement.{ancestors_shared, held_member}
-use Rattle.am_types.proofs.Ancestry.{ancestors_named, ancestors_closed, ancestors_least, Contains-filter, Contains-from_filter}
-use Rattle.am_types.proofs.DistinctIds.{ancestor_is_member, distinct_ids_in}
-use Rattle.am_types.proofs.Growth.{among_at, found_among, filter_agree_on, same_answers}
-use Rattle.am_types.proofs.Listed.{holds_own}
-use Rattle.am_types.proofs.ListingLaws.{operations-permutation}
+use Rattle.am_laws.specs.Laws.{SeesAlike}
+use Rattle.am_laws.proofs.Agreement.{ancestors_shared, held_member}
+use Rattle.am_laws.proofs.Ancestry.{ancestors_named, ancestors_closed, ancestors_least, Contains-filter, Contains-from_filter}
+use Rattle.am_laws.proofs.DistinctIds.{ancestor_is_member, distinct_ids_in}
+use Rattle.am_laws.proofs.Growth.{among_at, found_among, filter_agree_on, same_answers}
+use Rattle.am_laws.proofs.Listed.{holds_own}
+use Rattle.am_laws.proofs.ListingLaws.{operations-permutation}
 use Rattle.am_types.proofs.Lists.{all_of}
 use Rattle.am_types.proofs.Permuted.{replay-permutation}
-use Rattle.am_types.proofs.Rules.{distinct_hashes}
-use Rattle.am_types.proofs.SameMembers.{same_members, no_repeat}
-use Rattle.am_types.proofs.ValidSetLaws.{grounds_valid}
+use Rattle.am_laws.proofs.Rules.{distinct_hashes}
+use Rattle.am_laws.proofs.SameMembers.{same_members, no_repeat}
+use Rattle.am_laws.proofs.ValidSetLaws.{grounds_valid}
 
 -- ---- their order
 

@@ -2,7 +2,7 @@
 use Rattle.std.proofs.Common.{◌≡◌, List, [], ◌∷◌, filter, fold, Bool, true, false, refl, sym, ap, ◌∙◌, inl, inr}
 use Rattle.std.specs.List.{AllByRecursion}
 use Rattle.std.proofs.lemmas.Bool.{cases_Bool}
-use Rattle.am_types.specs.Records.{OpId, ObjId, Key, Name, Head, Elem}
+use Rattle.am_laws.specs.Records.{OpId, ObjId, Key, Name, Head, Elem}
 use Rattle.am_types.specs.Same.{same_id}
 use Rattle.am_types.specs.Operations.{Operation, ascending}
 use Rattle.am_types.specs.Elements.{HasReference, IsAnchored, put_after, put_at, elements, inserts_into}

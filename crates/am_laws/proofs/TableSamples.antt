@@ -1,13 +1,13 @@
 -- What the canonical documents of two of the worked examples say.
 use Rattle.std.proofs.Common.{ℕ, ◌≡◌, List, [], ◌∷◌, Some, pos, refl}
 use Rattle.am_types.specs.Actions as actions
-use Rattle.am_types.specs.Records.{OpId, Root, Name, Head, Elem, Op, Meta, Row, Table}
+use Rattle.am_laws.specs.Records.{OpId, Root, Name, Head, Elem, Op, Meta, Row, Table}
 use Rattle.am_types.specs.Rows.{rows}
 use Rattle.am_types.specs.Elements.{elements}
 use Rattle.am_types.specs.Canonical.{depth, order}
 use Rattle.am_types.specs.Documents.{table}
-use Rattle.am_types.proofs.SampleHashes.{h_a2, h_t2, h_t3}
-use Rattle.am_types.proofs.Samples.{aa, bb, cc, id, op, insertion, value, nothing, letter, key_a, the_text, a1, a2, t1, t2, t3}
+use Rattle.am_laws.proofs.SampleHashes.{h_a2, h_t2, h_t3}
+use Rattle.am_laws.proofs.Samples.{aa, bb, cc, id, op, insertion, value, nothing, letter, key_a, the_text, a1, a2, t1, t2, t3}
 
 -- a change row without a message
 abbrev meta : List ℕ → ℕ → ℕ → List ℕ → Meta

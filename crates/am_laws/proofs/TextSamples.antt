@@ -1,15 +1,15 @@
 -- Two people insert after one letter: in every order of delivery the text reads a, y, x, b, and at each state before
 -- what was there then.
 use Rattle.std.proofs.Common.{◌≡◌, List, [], ◌∷◌, map, refl}
-use Rattle.am_types.specs.Records.{OpId, Hash}
+use Rattle.am_laws.specs.Records.{OpId, Hash}
 use Rattle.am_types.specs.Operations.{all_operations}
 use Rattle.am_types.specs.Members.{Member, changes, hashes}
 use Rattle.am_types.specs.Ancestors.{ancestors}
 use Rattle.am_types.specs.Deliver.{Sets, deliver, settle, after}
 use Rattle.am_types.specs.Elements.{elements}
 use Rattle.am_types.specs.Replay.{replay}
-use Rattle.am_types.proofs.SampleHashes.{h_t1, h_t2, h_t3}
-use Rattle.am_types.proofs.Samples.{the_text, t1, t2, t3, id, aa, bb, cc}
+use Rattle.am_laws.proofs.SampleHashes.{h_t1, h_t2, h_t3}
+use Rattle.am_laws.proofs.Samples.{the_text, t1, t2, t3, id, aa, bb, cc}
 
 -- the elements of the text in a set
 abbrev letters : List Member → List OpId

@@ -8,15 +8,15 @@ use Rattle.std.proofs.lemmas.List.Sorted.{IsPermutation-refl}
 use Rattle.am_types.specs.Bytes.{IsBytes, IsHash}
 use Rattle.am_types.specs.Actors.{IsActor}
 use Rattle.am_types.specs.Actions as actions
-use Rattle.am_types.specs.Records.{Op, Root}
+use Rattle.am_laws.specs.Records.{Op, Root}
 use Rattle.am_types.specs.Numbers.{unsigned_of}
 use Rattle.am_types.specs.Values.{Good}
 use Rattle.am_types.specs.Fine.{Fine, FineOp, IsId}
 use Rattle.am_types.specs.Ancestors.{ancestors}
 use Rattle.am_types.specs.Verdicts.{verdict}
 use Rattle.am_types.specs.ValidSets.{Valid}
-use Rattle.am_types.proofs.SampleHashes.{h_a1}
-use Rattle.am_types.proofs.Samples.{a1, aa, op, value, key_a}
+use Rattle.am_laws.proofs.SampleHashes.{h_a1}
+use Rattle.am_laws.proofs.Samples.{a1, aa, op, value, key_a}
 
 -- a test tells that all are bytes
 bytes_from : (bytes : List ℕ) → list_all (λ b. nat_lt b 256) bytes ≡ true → IsBytes bytes

@@ -1,13 +1,13 @@
 -- Valid sets, whatever their order.
 use Rattle.std.proofs.Common.{◌≡◌, List, true, ◌∙◌, All, Contains, IsPermutation}
 use Rattle.std.proofs.lemmas.List.Sorted.{IsPermutation-sym, IsPermutation-map, Contains-permutation, list_any-IsPermutation}
-use Rattle.am_types.specs.Records.{Hash}
+use Rattle.am_laws.specs.Records.{Hash}
 use Rattle.am_types.specs.Order.{hash_cmp, same}
 use Rattle.am_types.specs.Members.{Member, hashes, holds}
 use Rattle.am_types.specs.Ancestors.{ancestors}
 use Rattle.am_types.specs.ValidSets.{Valid}
-use Rattle.am_types.proofs.Agreement.{ancestors_shared, same_tests, references_agree_all}
-use Rattle.am_types.proofs.Grounds.{Grounds, grounds}
+use Rattle.am_laws.proofs.Agreement.{ancestors_shared, same_tests, references_agree_all}
+use Rattle.am_laws.proofs.Grounds.{Grounds, grounds}
 
 -- ---- what holds of a listing holds of the set in any order
 

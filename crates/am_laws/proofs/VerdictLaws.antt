@@ -2,11 +2,11 @@
 use Rattle.std.proofs.Common.{ℕ, ◌≡◌, ◌≢◌, ◌↔◌, List, Bool, true, false, Option, Some, None, unwrap_or, option_map, refl, sym, ap}
 use Rattle.std.specs.Option.{option_or}
 use Rattle.std.specs.Bool.{then_some}
-use Rattle.am_types.specs.Records.{Hash, Change, Limit, Verdict, Fits, SeqClash, SeqGap, StartLow, BadReference, Full}
+use Rattle.am_laws.specs.Records.{Hash, Change, Limit, Verdict, Fits, SeqClash, SeqGap, StartLow, BadReference, Full}
 use Rattle.am_types.specs.Members.{Member}
 use Rattle.am_types.specs.Ancestors.{ancestors}
 use Rattle.am_types.specs.Verdicts.{NoReasonApplies, verdict, seq_clash, seq_gap, start_low, bad_reference, full}
-use Rattle.am_types.specs.Laws.{AnswersFirst}
+use Rattle.am_laws.specs.Laws.{AnswersFirst}
 
 -- the verdict v is not given
 abbrev Never : Verdict → Option Verdict → Type 0

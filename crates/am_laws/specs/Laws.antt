@@ -7,7 +7,7 @@ use Rattle.std.specs.declared.cmp.Ordering.{Ordering}
 use Rattle.std.specs.declared.cmp.Ordering.TheVariants.{Less, Equal, Greater}
 use Rattle.am_leb.specs.Leb.{IsUleb, IsLeb}
 use Rattle.am_types.specs.Bytes.{IsBytes}
-use Rattle.am_types.specs.Records.{OpId, Hash, ObjId, Key, Name, Head, Elem, Change, Limit, Fits, SeqClash, SeqGap, StartLow, BadReference, Full}
+use Rattle.am_laws.specs.Records.{OpId, Hash, ObjId, Key, Name, Head, Elem, Change, Limit, Fits, SeqClash, SeqGap, StartLow, BadReference, Full}
 use Rattle.am_types.specs.Order.{id_cmp, hash_cmp, sorted_by}
 use Rattle.am_types.specs.Numbers.{unsigned_of, signed_of}
 use Rattle.am_types.specs.Same.{same_change}

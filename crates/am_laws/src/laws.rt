@@ -1,5 +1,5 @@
 //! Laws over the definitions. Each function does nothing; its contract is the law.
-ghost use Rattle.am_types.specs.Laws.{OrdersAreStrict, SortingIsFree, NumbersAreShortest, SameIsEqual, AncestorsAreLeast, AncestorsKeepOrder, FitsExactly, VerdictsAreFirst, FirstBadIsLeast, ValidSetsKeepRules, IdsAreDistinct, ReferencesAreThere, ElementsFollowReferences, SettlesInTurn, SettlingKeepsOrder, ListingIsFree, DepthCounts, ElementsOfPart, AncestorsAreRead, ViewsStay, AncestorsStay};
+ghost use Rattle.am_laws.specs.Laws.{OrdersAreStrict, SortingIsFree, NumbersAreShortest, SameIsEqual, AncestorsAreLeast, AncestorsKeepOrder, FitsExactly, VerdictsAreFirst, FirstBadIsLeast, ValidSetsKeepRules, IdsAreDistinct, ReferencesAreThere, ElementsFollowReferences, SettlesInTurn, SettlingKeepsOrder, ListingIsFree, DepthCounts, ElementsOfPart, AncestorsAreRead, ViewsStay, AncestorsStay};
 
 /// Ids are totally ordered, hashes too, and only equal ones tie.
 #[tactic(auto, using(crate::proofs::Proved::orders_are_strict))]

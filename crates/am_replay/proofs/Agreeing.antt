@@ -18,7 +18,7 @@ use Rattle.am_types.specs.Operations.{Operation, slot, ascending}
 use Rattle.am_types.specs.Places.{place_cmp, slot_cmp}
 use Rattle.am_types.specs.Replay.{apply, entry_place, replay}
 use Rattle.am_types.specs.Same.{same_id, same_object}
-use Rattle.am_types.proofs.Ancestry.{Contains-filter}
+use Rattle.am_laws.proofs.Ancestry.{Contains-filter}
 use Rattle.am_types.proofs.Lists.{Contains-head, Contains-tail}
 use Rattle.am_types.proofs.Sorting.{IsPermutation-sorted_by}
 use Rattle.am_replay.specs.declared.placed.Placed.{Placed}

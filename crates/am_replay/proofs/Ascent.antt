@@ -8,7 +8,7 @@ use Rattle.am_types.specs.declared.OpId.{OpId}
 use Rattle.am_types.specs.Order.{id_cmp}
 use Rattle.am_types.specs.Same.{same_id}
 use Rattle.am_types.specs.Operations.{Operation}
-use Rattle.am_types.proofs.SameMembers.{Contains-cons_cases}
+use Rattle.am_laws.proofs.SameMembers.{Contains-cons_cases}
 use Rattle.am_types.proofs.Orders.{id_total, same_id-true}
 use Rattle.am_replay.specs.Rising.{Rise, IsBelow}
 

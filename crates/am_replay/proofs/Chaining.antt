@@ -16,7 +16,7 @@ use Rattle.am_types.specs.Order.{id_cmp}
 use Rattle.am_types.specs.Same.{same_id}
 use Rattle.am_types.specs.Operations.{Operation}
 use Rattle.am_types.proofs.Orders.{id_total, same_id_itself}
-use Rattle.am_types.proofs.SameMembers.{Contains-cons_cases}
+use Rattle.am_laws.proofs.SameMembers.{Contains-cons_cases}
 use Rattle.am_replay.specs.declared.numbered.Numbered.{Numbered}
 use Rattle.am_replay.specs.Numbered.{operation_of, ids_of}
 use Rattle.am_replay.specs.Rising.{Rise, IsBelow, HasAt, HasNone}

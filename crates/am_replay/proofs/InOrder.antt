@@ -26,11 +26,11 @@ use Rattle.am_types.specs.Order.{bytes_cmp, id_cmp, object_cmp, sorted_by}
 use Rattle.am_types.specs.Places.{Place, place_cmp, slot_cmp}
 use Rattle.am_types.specs.Replay.{apply, entry_place}
 use Rattle.am_types.specs.Same.{same_bytes, same_id, same_key, same_object}
-use Rattle.am_types.proofs.Ancestry.{Contains-filter}
+use Rattle.am_laws.proofs.Ancestry.{Contains-filter}
 use Rattle.am_types.proofs.Lists.{Contains-head, Contains-tail}
 use Rattle.am_types.proofs.Orders.{id_total, same_id-true, same_id_itself}
 use Rattle.am_types.proofs.SameLaws.{same_key-true}
-use Rattle.am_types.proofs.SameMembers.{Contains-cons_cases}
+use Rattle.am_laws.proofs.SameMembers.{Contains-cons_cases}
 use Rattle.am_types.proofs.Sorting.{IsPermutation-sorted_by}
 use Rattle.am_replay.specs.Laws.{EntriesAreInOrder}
 use Rattle.am_replay.specs.Line.{put, is_insertion, line, elements_in, AreAnchored, IsAnchoredIn}

@@ -15,9 +15,9 @@ use Rattle.am_types.specs.Elements.{HasReference, IsAnchored, put_after, put_at,
 use Rattle.am_types.specs.Same.{same_id, same_object}
 use Rattle.am_types.specs.Operations.{Operation}
 use Rattle.am_types.proofs.Orders.{same_id-true, same_id_itself}
-use Rattle.am_types.proofs.Ancestry.{Contains-from_filter}
+use Rattle.am_laws.proofs.Ancestry.{Contains-from_filter}
 use Rattle.am_types.proofs.Lists.{all_of, Contains-head, Contains-tail}
-use Rattle.am_types.proofs.Growth.{same_answers}
+use Rattle.am_laws.proofs.Growth.{same_answers}
 use Rattle.am_replay.specs.Rising.{Rise}
 use Rattle.am_replay.specs.Line.{put, is_insertion, line, elements_in}
 use Rattle.am_replay.specs.Sound.{IsElementOf, AreElementsKnown}

@@ -28,15 +28,15 @@ use Rattle.am_types.specs.Order.{id_cmp, put_in_order, Ascends}
 use Rattle.am_types.specs.Same.{same_id, same_object}
 use Rattle.am_types.specs.ValidSets.{Valid, IsValidSet}
 use Rattle.am_types.specs.Verdicts.{above, limit_passed}
-use Rattle.am_types.proofs.Ancestry.{Contains-filter, Contains-from_filter}
-use Rattle.am_types.proofs.DistinctOperations.{distinct_ids_valid}
-use Rattle.am_types.proofs.Grounds.{Grounds}
+use Rattle.am_laws.proofs.Ancestry.{Contains-filter, Contains-from_filter}
+use Rattle.am_laws.proofs.DistinctOperations.{distinct_ids_valid}
+use Rattle.am_laws.proofs.Grounds.{Grounds}
 use Rattle.am_types.proofs.Lists.{all_of}
 use Rattle.am_types.proofs.Orders.{id_total, id_exact}
-use Rattle.am_types.proofs.References.{fine_op, refers}
-use Rattle.am_types.proofs.Rules.{keeps_rules}
+use Rattle.am_laws.proofs.References.{fine_op, refers}
+use Rattle.am_laws.proofs.Rules.{keeps_rules}
 use Rattle.am_types.proofs.Sorting.{IsPermutation-sorted_by}
-use Rattle.am_types.proofs.ValidSetLaws.{grounds_valid}
+use Rattle.am_laws.proofs.ValidSetLaws.{grounds_valid}
 use Rattle.am_replay.specs.Line.{is_insertion, AreAnchored, IsAnchoredIn}
 use Rattle.am_replay.specs.Rising.{Rise, IsBelow}
 use Rattle.am_replay.specs.Sound.{Sound, HasRoom}

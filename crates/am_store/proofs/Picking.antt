@@ -17,7 +17,7 @@ use Rattle.am_types.specs.Ancestors.{ancestors}
 use Rattle.am_types.specs.Canonical.{canonical_cmp, order}
 use Rattle.am_types.specs.ValidSets.{Valid}
 use Rattle.am_types.proofs.Sorting.{IsPermutation-sorted_by}
-use Rattle.am_types.proofs.SharedAncestors.{ancestors_keep_order}
+use Rattle.am_laws.proofs.SharedAncestors.{ancestors_keep_order}
 use Rattle.am_graph.specs.declared.Node.{Node}
 use Rattle.am_graph.specs.Graphs.{nodes, is_held}
 use Rattle.am_graph.proofs.Held.{is_held-nodes}

@@ -23,4 +23,3 @@ pub mod Rows
 pub mod Clocks
 pub mod Canonical
 pub mod Documents
-pub mod Laws

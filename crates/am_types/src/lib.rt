@@ -8,7 +8,6 @@ mod document;
 mod hash;
 mod ids;
 mod known;
-mod laws;
 mod list;
 mod refs;
 #[cfg(test)]
@@ -25,13 +24,6 @@ pub use document::{Document, Entry, Meta, Row, Table};
 pub use hash::Hash;
 pub use ids::{Key, ObjId, OpId};
 pub use known::{hash_known, hashes_known, slice_known, str_known};
-pub use laws::{
-    ancestors_are_least, ancestors_are_read, ancestors_keep_order, ancestors_stay, depth_counts,
-    elements_follow_references, elements_of_part, first_bad_is_least, fits_exactly,
-    ids_are_distinct, listing_is_free, numbers_are_shortest, orders_are_strict,
-    references_are_there, same_is_equal, settles_in_turn, settling_keeps_order, sorting_is_free,
-    valid_sets_keep_rules, verdicts_are_first, views_stay,
-};
 pub use list::List;
 pub use refs::{EntryRef, IdRef, KeyRef, ObjRef, ValueRef, compare_ids};
 pub use text::Text;

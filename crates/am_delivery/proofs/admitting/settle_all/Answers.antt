@@ -1,7 +1,7 @@
 use Rattle.std.proofs.Common.{◌≡◌, vec_items, sym, ◌∙◌, refl, arith}
 use Rattle.std.proofs.lemmas.Bool.{MatchBool-at_true, MatchBool-at_false}
 use Rattle.am_types.specs.Deliver.{Sets, TakesOne, IsSettled}
-use Rattle.am_types.proofs.SettleLaws.{settle_taken, settle_idle, fewer_wait}
+use Rattle.am_laws.proofs.SettleLaws.{settle_taken, settle_idle, fewer_wait}
 use Rattle.am_delivery.specs.Waiting.{waiting_of}
 use Rattle.am_delivery.proofs.Steps.{takes_kept}
 use Rattle.am_delivery.proofs.admitting.settle_all.Goals as goal

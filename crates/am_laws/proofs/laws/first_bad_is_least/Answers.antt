@@ -1,5 +1,5 @@
-use Rattle.am_types.proofs.Proved as proved
-use Rattle.am_types.proofs.laws.first_bad_is_least.Goals as goal
+use Rattle.am_laws.proofs.Proved as proved
+use Rattle.am_laws.proofs.laws.first_bad_is_least.Goals as goal
 
 pub returns : goal.returns
 returns c = proved.first_bad_is_least

@@ -1,5 +1,5 @@
-use Rattle.am_types.proofs.Proved as proved
-use Rattle.am_types.proofs.laws.listing_is_free.Goals as goal
+use Rattle.am_laws.proofs.Proved as proved
+use Rattle.am_laws.proofs.laws.listing_is_free.Goals as goal
 
 pub returns : goal.returns
 returns c = proved.listing_is_free

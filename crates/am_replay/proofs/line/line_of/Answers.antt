@@ -1,6 +1,6 @@
 use Rattle.std.proofs.Common.{◌≡◌, ◌∙◌, filter, length, map, ap, sym, subst, arith}
 use Rattle.std.proofs.lemmas.List.{length-map}
-use Rattle.am_types.proofs.Ancestry.{length_kept}
+use Rattle.am_laws.proofs.Ancestry.{length_kept}
 use Rattle.am_replay.specs.Line.{is_insertion}
 use Rattle.am_replay.specs.Numbered.{operation_of}
 use Rattle.am_replay.specs.Rising.{Rise}

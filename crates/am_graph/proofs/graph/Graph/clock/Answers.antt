@@ -2,7 +2,7 @@ use Rattle.std.proofs.Common.{◌≡◌, ◌∙◌, [], sym, subst}
 use Rattle.std.specs.List.{zip}
 use Rattle.std.proofs.lemmas.List.Elements.{same_from_all_zip}
 use Rattle.am_types.specs.Ancestors.{ancestors}
-use Rattle.am_types.proofs.DistinctIds.{ancestor_is_member}
+use Rattle.am_laws.proofs.DistinctIds.{ancestor_is_member}
 use Rattle.am_graph.specs.Clocks.{IsClockOf}
 use Rattle.am_graph.specs.Graphs.{nodes, IsSound}
 use Rattle.am_graph.specs.Whole.{authors_of, first_in}

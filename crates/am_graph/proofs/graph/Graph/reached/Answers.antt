@@ -1,6 +1,6 @@
 use Rattle.std.proofs.Common.{◌≡◌, ◌∙◌, [], subst}
 use Rattle.am_types.specs.Ancestors.{ancestors}
-use Rattle.am_types.proofs.DistinctIds.{ancestor_is_member}
+use Rattle.am_laws.proofs.DistinctIds.{ancestor_is_member}
 use Rattle.am_graph.specs.Graphs.{nodes, IsSound}
 use Rattle.am_graph.specs.Whole.{authors_of, first_in}
 use Rattle.am_graph.proofs.Clocking.{clock_is}
