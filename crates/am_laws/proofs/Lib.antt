@@ -33,3 +33,5 @@ pub mod CounterSamples
 pub mod DeliverySamples
 pub mod NoteSamples
 pub mod ValidSample
+pub mod Sums
+pub mod TableLaws

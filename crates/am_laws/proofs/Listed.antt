@@ -1,5 +1,5 @@
 -- What holds of a set that is listed with each change fitting those before it.
-use Rattle.std.proofs.Common.{ℕ, ◌≡◌, ◌-◌, ◌<◌, ◌≤◌, List, [], ◌∷◌, ◌++◌, Bool, true, false, not, ◌&&◌, nat_lt, None, refl, sym, ap, ◌∙◌, subst, inl, inr, All, Contains, get_or, eq-eqb, arith}
+use Rattle.std.proofs.Common.{◌≡◌, ◌-◌, ◌<◌, ◌≤◌, List, [], ◌∷◌, ◌++◌, Bool, true, false, not, ◌&&◌, nat_lt, None, refl, sym, ap, ◌∙◌, subst, inl, inr, All, Contains, get_or, eq-eqb, arith}
 use Rattle.std.specs.List.{list_any}
 use Rattle.std.specs.Bool.{then_some}
 use Rattle.std.proofs.lemmas.Bool.{both_ways, and_from, and_parts, or_left, or_right, eqb-true, lt-ltb}

@@ -1,4 +1,5 @@
 //! Laws over the definitions. Each function does nothing; its contract is the law.
+ghost use Rattle.am_laws.specs.Tables.{TableIsWithin};
 ghost use Rattle.am_laws.specs.Laws.{OrdersAreStrict, SortingIsFree, NumbersAreShortest, SameIsEqual, AncestorsAreLeast, AncestorsKeepOrder, FitsExactly, VerdictsAreFirst, FirstBadIsLeast, ValidSetsKeepRules, IdsAreDistinct, ReferencesAreThere, ElementsFollowReferences, SettlesInTurn, SettlingKeepsOrder, ListingIsFree, DepthCounts, ElementsOfPart, AncestorsAreRead, ViewsStay, AncestorsStay};
 
 /// Ids are totally ordered, hashes too, and only equal ones tie.
@@ -120,4 +121,9 @@ pub fn views_stay()
 #[tactic(auto, using(crate::proofs::Proved::ancestors_stay_valid))]
 pub fn ancestors_stay()
     ensures { AncestorsStay }
+{}
+
+/// The canonical table of a valid set is within the limits of one document, and each actor that it names is listed.
+pub fn table_is_within()
+    ensures { TableIsWithin }
 {}

@@ -8,5 +8,5 @@ pub use laws::{
     elements_follow_references, elements_of_part, first_bad_is_least, fits_exactly,
     ids_are_distinct, listing_is_free, numbers_are_shortest, orders_are_strict,
     references_are_there, same_is_equal, settles_in_turn, settling_keeps_order, sorting_is_free,
-    valid_sets_keep_rules, verdicts_are_first, views_stay,
+    table_is_within, valid_sets_keep_rules, verdicts_are_first, views_stay,
 };
