@@ -61,7 +61,10 @@ fn push_operations<'a>(all: &mut Vec<Numbered<'a>>, change: &'a Change) -> Resul
 }
 
 // The operations of each of the changes.
-pub(crate) fn gather<'a>(alloc: Global, changes: &'a [Change]) -> Result<Vec<Numbered<'a>>, AllocError>
+pub(crate) fn gather<'a>(
+    alloc: Global,
+    changes: &'a [Change],
+) -> Result<Vec<Numbered<'a>>, AllocError>
     requires room { All HasRoom changes.now }
     ensures { IfOk result (λ all. map operation_of all.items ≡ all_operations changes.now) }
 {
