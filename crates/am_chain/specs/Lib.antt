@@ -3,3 +3,4 @@ pub mod Laws
 pub mod Sequences
 pub mod Chains
 pub mod Walks
+pub mod Insertions

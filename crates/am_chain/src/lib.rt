@@ -7,7 +7,9 @@ mod node;
 #[cfg(test)]
 mod tests;
 mod walk;
+mod whole;
 
 pub use chain::Chain;
 pub use laws::order_is_free;
 pub use walk::Walk;
+pub use whole::Insertion;

@@ -1,7 +1,7 @@
 //! Tests of chains: one walk whatever the order of the insertions.
 ghost use Rattle.std.specs.Prelude.{◌≡◌, ◌∷◌, [], IfOk};
 
-use crate::Chain;
+use crate::{Chain, Insertion};
 use am_types::{ActorId, OpId};
 use std::alloc::{AllocError, Global};
 
@@ -67,42 +67,6 @@ fn b_three_c(rt: HostRuntime) -> Result<(), AllocError> {
 }
 
 #[test]
-fn b_c_three(rt: HostRuntime) -> Result<(), AllocError> {
-    let alloc = rt.alloc();
-    let mut chain = Chain::new(alloc);
-    let first = chain.insert(None, id(alloc, 2, 0xaa)?)?;
-    chain.insert(Some(first), id(alloc, 4, 0xbb)?)?;
-    chain.insert(Some(first), id(alloc, 4, 0xcc)?)?;
-    chain.insert(Some(first), id(alloc, 3, 0xaa)?)?;
-    assert!(rt; is_expected(alloc, &chain)?);
-    Ok(())
-}
-
-#[test]
-fn c_three_b(rt: HostRuntime) -> Result<(), AllocError> {
-    let alloc = rt.alloc();
-    let mut chain = Chain::new(alloc);
-    let first = chain.insert(None, id(alloc, 2, 0xaa)?)?;
-    chain.insert(Some(first), id(alloc, 4, 0xcc)?)?;
-    chain.insert(Some(first), id(alloc, 3, 0xaa)?)?;
-    chain.insert(Some(first), id(alloc, 4, 0xbb)?)?;
-    assert!(rt; is_expected(alloc, &chain)?);
-    Ok(())
-}
-
-#[test]
-fn c_b_three(rt: HostRuntime) -> Result<(), AllocError> {
-    let alloc = rt.alloc();
-    let mut chain = Chain::new(alloc);
-    let first = chain.insert(None, id(alloc, 2, 0xaa)?)?;
-    chain.insert(Some(first), id(alloc, 4, 0xcc)?)?;
-    chain.insert(Some(first), id(alloc, 4, 0xbb)?)?;
-    chain.insert(Some(first), id(alloc, 3, 0xaa)?)?;
-    assert!(rt; is_expected(alloc, &chain)?);
-    Ok(())
-}
-
-#[test]
 fn greater_ones_are_passed(rt: HostRuntime) -> Result<(), AllocError> {
     let alloc = rt.alloc();
     let mut chain = Chain::new(alloc);
@@ -111,5 +75,31 @@ fn greater_ones_are_passed(rt: HostRuntime) -> Result<(), AllocError> {
     chain.insert(Some(first), id(alloc, 4, 0xcc)?)?;
     let found = walked(alloc, &chain)?;
     assert_eq!(rt; found.as_slice(), &[(2, 0xaa), (5, 0xdd), (4, 0xcc)][..]);
+    Ok(())
+}
+
+#[test]
+fn whole_list(rt: HostRuntime) -> Result<(), AllocError> {
+    let alloc = rt.alloc();
+    let insertions = vec![in alloc;
+        Insertion {
+            after: None,
+            id: id(alloc, 2, 0xaa)?
+        },
+        Insertion {
+            after: Some(0),
+            id: id(alloc, 4, 0xbb)?
+        },
+        Insertion {
+            after: Some(0),
+            id: id(alloc, 3, 0xaa)?
+        },
+        Insertion {
+            after: Some(0),
+            id: id(alloc, 4, 0xcc)?
+        },
+    ]?;
+    let chain = Chain::of(alloc, insertions.as_slice())?;
+    assert!(rt; is_expected(alloc, &chain)?);
     Ok(())
 }

@@ -1,14 +1,5 @@
-pub mod Stable
-pub mod Numbering
-pub mod Ascent
 pub mod Stepping
 pub mod Bounds
-pub mod Found
-pub mod Chaining
-pub mod PlaceOrder
-pub mod Lines
 pub mod Agreeing
-pub mod Validity
 pub mod Strictly
 pub mod InOrder
-pub mod Checking

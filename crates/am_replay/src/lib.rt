@@ -1,11 +1,7 @@
 //! The visible values of a valid set of changes, by applying its operations one after the other.
 #![tactic(auto)]
 
-#[cfg(test)]
-mod checked;
 mod laws;
-mod line;
-mod numbered;
 mod placed;
 #[cfg(test)]
 mod samples;

@@ -4,8 +4,8 @@ ghost use Rattle.am_types.specs.Operations.{all_operations};
 ghost use Rattle.am_types.specs.Replay.{replay};
 ghost use Rattle.am_types.specs.ValidSets.{IsValidSet};
 
-use crate::numbered::{gather, sort_operations};
 use crate::placed::read;
+use am_places::ascending_operations;
 use am_types::{Change, Document};
 use std::alloc::{AllocError, Global};
 
@@ -16,7 +16,6 @@ pub fn replay(alloc: Global, changes: &[Change]) -> Result<Document, AllocError>
     requires { IsValidSet changes.now }
     ensures { IfOk result (λ document. document.entries ≡ replay (all_operations changes.now)) }
 {
-    let mut operations = gather(alloc, changes)?;
-    sort_operations(&mut operations)?;
+    let operations = ascending_operations(alloc, changes)?;
     read(alloc, operations.as_slice())
 }

@@ -6,6 +6,7 @@ pub mod Numbers
 pub mod Values
 pub mod Views
 pub mod Same
+pub mod Owned
 pub mod Actions
 pub mod Operations
 pub mod Fine

@@ -4,11 +4,13 @@
 mod actor;
 mod bytes;
 mod change;
+mod compare;
 mod document;
 mod hash;
 mod ids;
 mod known;
 mod list;
+mod owned;
 mod refs;
 #[cfg(test)]
 mod tests;
@@ -20,6 +22,7 @@ mod verdict;
 pub use actor::{ActorFault, ActorId};
 pub use bytes::Bytes;
 pub use change::{Change, Op};
+pub use compare::{compare_objects, same_id, same_key, same_object};
 pub use document::{Document, Entry, Meta, Row, Table};
 pub use hash::Hash;
 pub use ids::{Key, ObjId, OpId};

@@ -1,0 +1,10 @@
+pub mod Stable
+pub mod Numbering
+pub mod Ascent
+pub mod Found
+pub mod Chaining
+pub mod PlaceOrder
+pub mod Lines
+pub mod Agreeing
+pub mod Validity
+pub mod Checking

@@ -1,0 +1,119 @@
+//! The operations of changes, beside their ids.
+ghost use Rattle.std.specs.Prelude.{◌≡◌, ◌++◌, All, IfOk, OnOk, map};
+ghost use Rattle.am_types.specs.Operations.{operations, all_operations, ascending};
+ghost use Rattle.am_types.specs.Order.{id_cmp};
+ghost use Rattle.am_types.specs.ValidSets.{IsValidSet};
+ghost use Rattle.am_types.specs.Views.{id_of};
+ghost use Rattle.am_places.specs.Numbered.{operation_of, by_id};
+ghost use Rattle.am_places.specs.Rising.{Rise, IsFound};
+ghost use Rattle.am_places.specs.Sound.{HasRoom, Sound};
+
+use am_types::{ActorId, Change, IdRef, Op, OpId, Twin, compare_ids};
+use std::alloc::{AllocError, Global};
+use std::cmp::Ordering;
+
+/// An operation beside its id.
+#[derive(Clone, Copy)]
+pub struct Numbered<'a> {
+    pub counter: u64,
+    pub actor: &'a ActorId,
+    pub op: &'a Op,
+}
+
+impl<'a> Numbered<'a> {
+    /// The id of the operation.
+    pub fn id(&self) -> IdRef<'a>
+        ensures { id_of result ≡ (operation_of self.now).id }
+    {
+        IdRef {
+            counter: self.counter,
+            actor: self.actor.as_slice(),
+        }
+    }
+
+    /// The id of the operation, copied.
+    pub fn own_id(&self, alloc: Global) -> Result<OpId, AllocError>
+        ensures { IfOk result (λ id. id ≡ (operation_of self.now).id) }
+    {
+        let actor = self.actor.copy(alloc)?;
+        Ok(OpId {
+            counter: self.counter,
+            actor,
+        })
+    }
+}
+
+// The operations of a change go up by one from its start.
+fn push_operations<'a>(all: &mut Vec<Numbered<'a>>, change: &'a Change) -> Result<(), AllocError>
+    requires room { HasRoom change.now }
+    ensures { OnOk result (map operation_of all.new.items ≡ map operation_of all.old.items ++ operations change.now) }
+{
+    let mut counter = change.start;
+    for op in change.ops.as_slice() {
+        all.push(Numbered {
+            counter,
+            actor: &change.actor,
+            op,
+        })?;
+        counter += 1;
+    }
+    Ok(())
+}
+
+// The operations of each of the changes.
+pub(crate) fn gather<'a>(
+    alloc: Global,
+    changes: &'a [Change],
+) -> Result<Vec<Numbered<'a>>, AllocError>
+    requires room { All HasRoom changes.now }
+    ensures { IfOk result (λ all. map operation_of all.items ≡ all_operations changes.now) }
+{
+    let mut all = Vec::new(alloc);
+    for change in changes {
+        push_operations(&mut all, change)?;
+    }
+    Ok(all)
+}
+
+// In ascending id.
+pub(crate) fn sort_operations(all: &mut Vec<Numbered<'_>>) -> Result<(), AllocError>
+    ensures { OnOk result (map operation_of all.new.items ≡ ascending (map operation_of all.old.items)) }
+{
+    all.sort_by(
+        |a: &Numbered<'_>, b: &Numbered<'_>| -> Ordering
+            ensures { result ≡ by_id a.now b.now }
+        { compare_ids(a.id(), b.id()) },
+    )?;
+    Ok(())
+}
+
+/// The operations of a valid set of changes, listed in any order, in ascending id. It takes time in n log n, of n
+/// operations.
+pub fn ascending_operations<'a>(
+    alloc: Global,
+    changes: &'a [Change],
+) -> Result<Vec<Numbered<'a>>, AllocError>
+    requires valid { IsValidSet changes.now }
+    ensures operations { IfOk result (λ all. map operation_of all.items ≡ ascending (all_operations changes.now)) }
+    ensures sound { IfOk result (λ all. Sound (map operation_of all.items)) }
+{
+    let mut all = gather(alloc, changes)?;
+    sort_operations(&mut all)?;
+    Ok(all)
+}
+
+/// The place of the operation with this id.
+pub fn find(operations: &[Numbered<'_>], id: IdRef<'_>) -> Option<usize>
+    requires rise { Rise (map operation_of operations.now) }
+    ensures { IsFound (map operation_of operations.now) (id_of id.entry) result }
+{
+    let found = operations.binary_search_by(
+        |x: &Numbered<'_>| -> Ordering
+            ensures { result ≡ id_cmp (operation_of x.now).id (id_of id.entry) }
+        { compare_ids(x.id(), id) },
+    );
+    match found {
+        Ok(at) => Some(at),
+        Err(_) => None,
+    }
+}
