@@ -35,3 +35,5 @@ pub mod NoteSamples
 pub mod ValidSample
 pub mod Sums
 pub mod TableLaws
+pub mod Climbing
+pub mod ActorLaws

@@ -2,7 +2,7 @@
 use Rattle.std.proofs.Common.{ℕ, suc, ◌≡◌, ◌+◌, ◌≤◌, List, [], ◌∷◌, length, map, filter, flat_map, Bool, true, false, cond, refl, sym, ap, ◌∙◌, inl, inr, subst, sum_by, Contains, arith}
 use Rattle.std.proofs.lemmas.Bool.{cases_Bool}
 use Rattle.std.proofs.lemmas.List.Sums.{sum_by-cons, sum_by-append}
-use Rattle.std.proofs.lemmas.List.Elements.{Contains-append_left, Contains-append_right}
+use Rattle.std.proofs.lemmas.List.Elements.{Contains-append_left, Contains-append_right, Contains-append_cases}
 use Rattle.am_laws.proofs.SameMembers.{Contains-cons_cases}
 
 -- one where the test is passed, else none
@@ -108,6 +108,15 @@ module _ {X Y : Type 0} where
       elim (Contains-cons_cases z xs x c) [
         | inl e ↦ Contains-append_left (f z) (flat_map f xs) y (subst (λ q. Contains (f q) y) (sym e) d)
         | inr r ↦ Contains-append_right (f z) (flat_map f xs) y (again r)
+      ]
+
+  pub Contains-from_flat_map : (f : X → List Y) (xs : List X) (y : Y) → Contains (flat_map f xs) y → (x : X) × Contains xs x × Contains (f x) y
+  Contains-from_flat_map f [] y c = absurd (omega (arith, c.1))
+  Contains-from_flat_map f (z ∷ xs) y c =
+      let again : Contains (flat_map f xs) y → (x : X) × Contains xs x × Contains (f x) y = Contains-from_flat_map f xs y in
+      elim (Contains-append_cases (f z) (flat_map f xs) y c) [
+        | inl here ↦ (z, (0, omega arith, refl), here)
+        | inr there ↦ let g = again there in let place = g.1 in (g.0, (suc place.0, omega arith, place.2), g.2)
       ]
 
   pub Contains-from_map : (f : X → Y) (xs : List X) (y : Y) → Contains (map f xs) y → (x : X) × Contains xs x × (y ≡ f x)

@@ -1,17 +1,23 @@
 -- What the canonical table of a valid set meets, so that it can be written.
+--     authors C                    the actors of the members of C
 --     row_actors r                 the actors that a row names
 --     RowWithin actors r           the numbers, texts and values of a row are within their limits, its actors are listed
 --     MetaWithin actors count m    the same of a change row, whose dependencies are places below count
 --     TableWithin t                each row and change row is so, and the table is within the limits of one document
-use Rattle.std.specs.Prelude.{ℕ, ◌≤◌, ◌<◌, ◌^◌, ◌<ℤ◌, neg_ℤ, pos, List, ◌∷◌, ◌++◌, length, map, sum_by, All, IfSome, IsTrue, IsUtf8}
+use Rattle.std.specs.Prelude.{ℕ, ◌≡◌, ◌≤◌, ◌<◌, ◌^◌, ◌<ℤ◌, neg_ℤ, pos, List, ◌∷◌, ◌++◌, length, map, sum_by, All, IfSome, IsTrue, IsUtf8}
+use Rattle.std.specs.List.{dedup}
 use Rattle.am_laws.specs.Records.{Row, Meta, Table}
 use Rattle.am_types.specs.Bytes.{IsBytes}
-use Rattle.am_types.specs.Order.{bytes_cmp, among}
+use Rattle.am_types.specs.Order.{bytes_cmp, among, sorted_by}
+use Rattle.am_types.specs.Same.{same_bytes}
 use Rattle.am_types.specs.Fine.{IsId, IsObject, IsKey}
 use Rattle.am_types.specs.Values.{Good}
 use Rattle.am_types.specs.Members.{Member}
 use Rattle.am_types.specs.ValidSets.{Valid}
-use Rattle.am_types.specs.Documents.{object_actors, key_actors, table}
+use Rattle.am_types.specs.Documents.{object_actors, key_actors, used_actors, table}
+
+abbrev pub authors : List Member → List (List ℕ)
+authors C = map (λ m. m.change.actor) C
 
 abbrev pub IsListed : List (List ℕ) → List ℕ → Type 0
 IsListed actors a = IsTrue (among bytes_cmp actors a)
@@ -50,3 +56,7 @@ pub record TableWithin (t : Table) : Type 0 where
 -- the canonical table of a valid set is within the limits of one document
 abbrev pub TableIsWithin : Type 0
 TableIsWithin = (C : List Member) → Valid C → TableWithin (table C)
+
+-- the actors that a valid set uses are the authors of its members
+abbrev pub ActorsAreAuthors : Type 0
+ActorsAreAuthors = (C : List Member) → Valid C → used_actors C ≡ dedup same_bytes (sorted_by bytes_cmp (authors C))

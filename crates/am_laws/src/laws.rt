@@ -1,5 +1,5 @@
 //! Laws over the definitions. Each function does nothing; its contract is the law.
-ghost use Rattle.am_laws.specs.Tables.{TableIsWithin};
+ghost use Rattle.am_laws.specs.Tables.{ActorsAreAuthors, TableIsWithin};
 ghost use Rattle.am_laws.specs.Laws.{OrdersAreStrict, SortingIsFree, NumbersAreShortest, SameIsEqual, AncestorsAreLeast, AncestorsKeepOrder, FitsExactly, VerdictsAreFirst, FirstBadIsLeast, ValidSetsKeepRules, IdsAreDistinct, ReferencesAreThere, ElementsFollowReferences, SettlesInTurn, SettlingKeepsOrder, ListingIsFree, DepthCounts, ElementsOfPart, AncestorsAreRead, ViewsStay, AncestorsStay};
 
 /// Ids are totally ordered, hashes too, and only equal ones tie.
@@ -126,4 +126,9 @@ pub fn ancestors_stay()
 /// The canonical table of a valid set is within the limits of one document, and each actor that it names is listed.
 pub fn table_is_within()
     ensures { TableIsWithin }
+{}
+
+/// The actors that a valid set uses are the authors of its members: what its operations name was made by one of them.
+pub fn actors_are_authors()
+    ensures { ActorsAreAuthors }
 {}
