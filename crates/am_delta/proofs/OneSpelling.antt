@@ -1,3 +1,7 @@
+-- Values have one canonical spelling.
+--     sums-differences, differences-sums     sums and differences are each other's way back
+--     length-differences     there are as many differences as values
+--     CanonDeltas_iff        the canonical bytes of values are those of their differences
 use Rattle.std.proofs.Common.{◌≡◌, ℕ, suc, ◌^◌, ◌≤◌, List, [], ◌∷◌, length, map, Option, Some, None, ℤ, pos, ◌+ℤ◌, ◌-ℤ◌, ◌↔◌, refl, sym, ap, ◌∙◌, subst, arith, rules, FitsSigned, w64}
 use Rattle.std.specs.Option.{IfSome, option_map}
 use Rattle.std.specs.List.{AllByRecursion}
@@ -10,13 +14,13 @@ use Rattle.am_runs.proofs.ItemIs.{signed_item}
 use Rattle.am_runs.proofs.Existing.{Canon_iff}
 use Rattle.am_delta.specs.Deltas.{sums_from, differences_from, IsMiddling, AreMiddling, CanonDeltas, canonical_delta_bytes}
 
-sums-differences : (last : ℤ) (values : List (Option ℤ)) → sums_from last (differences_from last values) ≡ values
+pub sums-differences : (last : ℤ) (values : List (Option ℤ)) → sums_from last (differences_from last values) ≡ values
 sums-differences last [] = refl
 sums-differences last (None ∷ values) = ap (λ l. None ∷ l) (sums-differences last values)
 sums-differences last (Some v ∷ values) =
     ap (λ z. Some z ∷ sums_from z (differences_from v values)) (let e : last +ℤ (v -ℤ last) ≡ v = omega (arith, ints) in e) ∙ ap (λ l. Some v ∷ l) (sums-differences v values)
 
-differences-sums : (sum : ℤ) (ds : List (Option ℤ)) → differences_from sum (sums_from sum ds) ≡ ds
+pub differences-sums : (sum : ℤ) (ds : List (Option ℤ)) → differences_from sum (sums_from sum ds) ≡ ds
 differences-sums sum [] = refl
 differences-sums sum (None ∷ ds) = ap (λ l. None ∷ l) (differences-sums sum ds)
 differences-sums sum (Some d ∷ ds) =
@@ -30,7 +34,7 @@ items last [] h a = tt
 items last (None ∷ values) h a = (tt, items last values h a.1)
 items last (Some v ∷ values) h a = (signed_item (v -ℤ last) (difference_fits v last a.0 h), items v values a.0 a.1)
 
-length-differences : (last : ℤ) (values : List (Option ℤ)) → length (differences_from last values) ≡ length values
+pub length-differences : (last : ℤ) (values : List (Option ℤ)) → length (differences_from last values) ≡ length values
 length-differences last [] = refl
 length-differences last (None ∷ values) = ap suc (length-differences last values)
 length-differences last (Some v ∷ values) = ap suc (length-differences v values)

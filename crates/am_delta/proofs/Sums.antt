@@ -1,3 +1,4 @@
+-- Sums of differences: along equal ones, between bounds, and where a cursor skips.
 use Rattle.std.proofs.Common.{◌≡◌, ℕ, suc, zero, ◌≤◌, ◌-◌, ◌+◌, List, [], ◌∷◌, ◌++◌, length, take, drop, Bool, ◌↔◌, ◌⊎◌, inl, inr, ⊎_elim, Option, Some, None, ℤ, pos, negsuc, ◌+ℤ◌, ◌*ℤ◌, ◌≤ℤ◌, refl, sym, ap, ◌∙◌, subst, arith, rules, FitsSigned, w64}
 use mir.Val.{to_z, of_z}
 use Rattle.std.specs.Prelude.{replicate}

@@ -1,3 +1,11 @@
+-- Values that a column writes as the difference of each from the one before it. (Automerge Binary Document Format, delta
+-- encoding.)
+--     sums_from sum differences          the values of the differences, from this sum on
+--     JoinsDeltas bytes values           the bytes join runs of the differences of the values
+--     SpellsDeltas bytes values          they do, or there are no bytes, and all values are null
+--     CanonDeltas bytes values           the bytes are the one canonical spelling of the differences of the values
+--     canonical_delta_bytes values       these bytes
+--     AllBetween, AllFit, AreMiddling    limits of the values that aren't null
 use Rattle.std.specs.Prelude.{◌≡◌, ◌⊎◌, ℕ, List, [], ◌∷◌, map, Option, Some, None, Bool, true, false, ℤ, pos, neg_ℤ, ◌+ℤ◌, ◌-ℤ◌, ◌*ℤ◌, ◌≤ℤ◌, ◌<ℤ◌, ◌^◌, IfSome, FitsSigned}
 use Rattle.std.specs.Int.{w64}
 use Rattle.std.specs.Option.{option_map}
