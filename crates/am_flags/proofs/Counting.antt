@@ -1,3 +1,6 @@
+-- Flags have one list of block lengths, and so one canonical spelling.
+--     alternating-counts, counts-alternating     flags and their block lengths are each other's way back
+--     CanonFlags_iff, CanonMaybe_iff             the canonical bytes of flags are those of their block lengths
 use Rattle.std.proofs.Common.{◌≡◌, ℕ, suc, zero, ◌^◌, ◌<◌, ◌≤◌, List, [], ◌∷◌, ◌++◌, length, Bool, true, false, not, inl, inr, ◌⊎◌, ⊎_elim, ◌↔◌, refl, sym, ap, ◌∙◌, arith}
 use Rattle.std.specs.Prelude.{replicate}
 use Rattle.std.specs.List.{flat_map, sum}

@@ -1,3 +1,10 @@
+-- Flags that a column writes as the lengths of blocks of equal ones, the first of falses. (Automerge Binary Document
+-- Format, boolean encoding.)
+--     JoinsFlags bytes flags         the bytes are the lengths of the blocks; only the first may be 0
+--     SpellsFlags bytes flags        they are, or there are no bytes, and all flags are false
+--     CanonFlags bytes flags         the lengths are those that a writer leaves
+--     CanonMaybe bytes flags         the same, but falses alone are no bytes
+--     canonical_bytes, canonical_maybe_bytes     these bytes
 use Rattle.std.specs.Prelude.{◌≡◌, ℕ, ◌<◌, ◌≤◌, ◌^◌, List, [], ◌∷◌, ◌++◌, length, drop, Bool, true, false, not, replicate, suc, zero, ◌⊎◌, Result, Ok, Err}
 use Rattle.std.specs.List.{flat_map, AllByRecursion}
 use Rattle.am_leb.specs.Leb.{uleb}
