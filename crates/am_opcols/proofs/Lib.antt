@@ -8,4 +8,8 @@ pub mod AboveLaws
 pub mod Named
 pub mod Spelled
 pub mod WrittenOps
+pub mod Chains
 pub mod NamedAlone
+pub mod EachColumnLaws
+pub mod ListedLaws
+pub mod CanonicalRead

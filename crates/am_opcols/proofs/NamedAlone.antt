@@ -7,8 +7,10 @@ use Rattle.std.proofs.lemmas.Cmp.{nat_list_cmp_total}
 use Rattle.am_types.specs.declared.Op.{Op}
 use Rattle.am_types.specs.Order.{bytes_cmp, Ascends}
 use Rattle.am_fields.specs.Columns.{is_actor}
-use Rattle.am_opcols.specs.Others.{actors_of, put_by, put_actor, put_other, put_others, others}
-use Rattle.am_opcols.proofs.Named.{IsThere, others_there, is_actor-itself}
+use Rattle.am_opcols.specs.Others.{IsThere, actors_of, put_by, put_actor, put_other, put_others, others}
+use Rattle.am_opcols.specs.Chains.{Chain, ChainFrom}
+use Rattle.am_opcols.proofs.Chains.{chain_ascends}
+use Rattle.am_opcols.proofs.Named.{others_there, is_actor-itself}
 
 there_of : (xs : List (List ℕ)) (a : List ℕ) → Contains xs a → IsThere xs a
 there_of [] a (k, l, e) = absurd (omega arith)
@@ -38,7 +40,7 @@ other_alone author actor a known h =
       | false ↦ λ t g. ⊎_elim (λ e. inl (e, λ same. let itself : is_actor actor author ≡ true = ap (λ x. is_actor actor x) (sym same ∙ e) ∙ is_actor-itself actor in cc)) (λ k. inr k) (put_alone actor a known g)
     ] refl h
 
-others_alone : (author : List ℕ) (xs known : List (List ℕ)) (a : List ℕ) → IsThere (put_others author xs known) a → (IsThere xs a × (a ≢ author)) ⊎ IsThere known a
+pub others_alone : (author : List ℕ) (xs known : List (List ℕ)) (a : List ℕ) → IsThere (put_others author xs known) a → (IsThere xs a × (a ≢ author)) ⊎ IsThere known a
 others_alone author [] known a h = inr h
 others_alone author (x ∷ xs) known a h =
     ⊎_elim (λ w. inl (inr w.0, w.1)) (λ k. ⊎_elim (λ w. inl (inl w.0, w.1)) (λ m. inr m) (other_alone author x a known k)) (others_alone author xs (put_other author x known) a h)
@@ -52,55 +54,37 @@ members author actor ops =
 
 -- ascending
 
-abbrev UpFrom : List ℕ → List (List ℕ) → Type 0
-UpFrom before [] = Unit {0}
-UpFrom before (x ∷ xs) = (bytes_cmp before x ≡ Less) × UpFrom x xs
-
-abbrev Up : List (List ℕ) → Type 0
-Up [] = Unit {0}
-Up (x ∷ xs) = UpFrom x xs
-
 turned : (a b : List ℕ) → bytes_cmp a b ≡ Greater → bytes_cmp b a ≡ Less
 turned a b e = nat_list_cmp_total.antisymm b a ∙ ap ordering_reverse e
 
-put_from : (before actor : List ℕ) (known : List (List ℕ)) → UpFrom before known → bytes_cmp before actor ≡ Less → UpFrom before (put_actor actor known)
+put_from : (before actor : List ℕ) (known : List (List ℕ)) → ChainFrom bytes_cmp before known → bytes_cmp before actor ≡ Less → ChainFrom bytes_cmp before (put_actor actor known)
 put_from before actor [] up less = (less, tt)
 put_from before actor (first ∷ rest) up less =
-    elim (bytes_cmp actor first) as (λ r. bytes_cmp actor first ≡ r → UpFrom before (put_by r actor first rest (put_actor actor rest))) [
+    elim (bytes_cmp actor first) as (λ r. bytes_cmp actor first ≡ r → ChainFrom bytes_cmp before (put_by r actor first rest (put_actor actor rest))) [
       | Less ↦ λ e. (less, (e, up.1))
       | Equal ↦ λ e. up
       | Greater ↦ λ e. (up.0, put_from first actor rest up.1 (turned actor first e))
     ] refl
 
-put_up : (actor : List ℕ) (known : List (List ℕ)) → Up known → Up (put_actor actor known)
+put_up : (actor : List ℕ) (known : List (List ℕ)) → Chain bytes_cmp known → Chain bytes_cmp (put_actor actor known)
 put_up actor [] up = tt
 put_up actor (first ∷ rest) up =
-    elim (bytes_cmp actor first) as (λ r. bytes_cmp actor first ≡ r → Up (put_by r actor first rest (put_actor actor rest))) [
+    elim (bytes_cmp actor first) as (λ r. bytes_cmp actor first ≡ r → Chain bytes_cmp (put_by r actor first rest (put_actor actor rest))) [
       | Less ↦ λ e. (e, up)
       | Equal ↦ λ e. up
       | Greater ↦ λ e. put_from first actor rest up (turned actor first e)
     ] refl
 
-other_up : (author actor : List ℕ) (known : List (List ℕ)) → Up known → Up (put_other author actor known)
+other_up : (author actor : List ℕ) (known : List (List ℕ)) → Chain bytes_cmp known → Chain bytes_cmp (put_other author actor known)
 other_up author actor known up =
-    elim (is_actor actor author) as (λ b. Up (if b then known else put_actor actor known)) [
+    elim (is_actor actor author) as (λ b. Chain bytes_cmp (if b then known else put_actor actor known)) [
       | true ↦ up
       | false ↦ put_up actor known up
     ]
 
-others_up : (author : List ℕ) (xs known : List (List ℕ)) → Up known → Up (put_others author xs known)
+pub others_up : (author : List ℕ) (xs known : List (List ℕ)) → Chain bytes_cmp known → Chain bytes_cmp (put_others author xs known)
 others_up author [] known up = up
 others_up author (x ∷ xs) known up = others_up author xs (put_other author x known) (other_up author x known up)
 
-adjacent : (before : List ℕ) (xs : List (List ℕ)) → UpFrom before xs → (k : ℕ) (d : List ℕ) → suc k < length (before ∷ xs) → bytes_cmp (get_or (before ∷ xs) k d) (get_or (before ∷ xs) (suc k) d) ≡ Less
-adjacent before [] up k d l = absurd (omega arith)
-adjacent before (x ∷ xs) up zero d l = up.0
-adjacent before (x ∷ xs) up (suc k) d l = adjacent x xs up.1 k d (omega arith)
-
-up_ascends : (xs : List (List ℕ)) → Up xs → Ascends bytes_cmp xs
-up_ascends [] up = λ k d l. absurd (omega arith)
-up_ascends (x ∷ xs) up = λ k d l.
-    subst (λ (n : ℕ). bytes_cmp (get_or (x ∷ xs) k d) (get_or (x ∷ xs) n d) ≡ Less) (sym (add-one k)) (adjacent x xs up k d (omega arith))
-
 pub ascend : (author : List ℕ) (ops : List Op) → Ascends bytes_cmp (others author ops)
-ascend author ops = up_ascends (others author ops) (others_up author (flat_map actors_of ops) [] tt)
+ascend author ops = chain_ascends bytes_cmp (others author ops) (others_up author (flat_map actors_of ops) [] tt)

@@ -94,6 +94,11 @@ fields_from n os ks is xs vs ps es ms even =
       marks = map-map (λ o. o.mark) op_with r1 ∙ zip_second (λ p. p.1.1.1.1.1.1) os r2 e1 ∙ zip_second (λ p. p.1.1.1.1.1) ks r3 e2 ∙ zip_second (λ p. p.1.1.1.1) is r4 e3 ∙ zip_second (λ p. p.1.1.1) xs r5 e4 ∙ zip_second (λ p. p.1.1) vs r6 e5 ∙ zip_second (λ p. p.1) ps r7 e6 ∙ zip_second (λ x. x) es ms e7 ∙ map-id ms;
     }
 
+-- there are as many operations as actions
+pub length-ops : (os : List ObjId) (ks : List Key) (is : List Bool) (xs : List ℕ) (vs : List RawValue) (ps : List (List OpId)) (es : List Bool) (ms : List (Option (List ℕ))) → Even (length xs) os ks is xs vs ps es ms → length (ops_from os ks is xs vs ps es ms) ≡ length xs
+length-ops os ks is xs vs ps es ms even =
+    sym (length-map (ops_from os ks is xs vs ps es ms) (λ o. o.action)) ∙ ap length (fields_from (length xs) os ks is xs vs ps es ms even).actions
+
 pub SpellsOps-made : (actors : List (List ℕ)) (columns : List (ℕ × List ℕ)) (ops : List Op) (os : List ObjId) (ks : List Key) (is : List Bool) (xs : List ℕ) (vs : List RawValue) (ps : List (List OpId)) (es : List Bool) (ms : List (Option (List ℕ)))
     → HasFields ops os ks is xs vs ps es ms
     → SpellsObjects actors (column_at columns 1) (column_at columns 2) os

@@ -1,5 +1,6 @@
 -- The columns of a change's operations. (Automerge Binary Document Format, "Operation Columns".)
 --     op_columns ops                    what each column holds, ascending by specification
+--     op_specifications                 the specifications of the columns that operations may have
 --     SpellsOps actors columns ops      the columns spell these operations, each within its limits
 use Rattle.std.specs.Prelude.{ℕ, ◌≤◌, ◌^◌, List, [], ◌∷◌, ◌++◌, length, map}
 use Rattle.std.specs.List.{AllByRecursion}
@@ -20,6 +21,9 @@ op_columns ops =
     ++ (148, RareFlags (map (λ o. o.expand) ops))
     ∷ (165, Texts (map (λ o. o.mark) ops))
     ∷ []
+
+abbrev pub op_specifications : List ℕ
+op_specifications = 1 ∷ 2 ∷ 17 ∷ 19 ∷ 21 ∷ 52 ∷ 66 ∷ 86 ∷ 87 ∷ 112 ∷ 113 ∷ 115 ∷ 148 ∷ 165 ∷ []
 
 -- Each action is one of the eight, each value is good, and each id is within its limits. There are at most 2 ^ 22
 -- operations, and as many predecessors of all together.

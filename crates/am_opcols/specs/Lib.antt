@@ -2,3 +2,5 @@ pub mod Columns
 pub mod Rows
 pub mod Others
 pub mod Writing
+pub mod Chains
+pub mod EachColumn

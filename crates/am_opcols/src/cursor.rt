@@ -1,5 +1,5 @@
 //! A cursor over the operations of a change. It takes no memory.
-ghost use Rattle.std.specs.Prelude.{◌≡◌, ◌∷◌, [], List, IfOk, IfSome, IfNone, OnErr};
+ghost use Rattle.std.specs.Prelude.{◌≡◌, ◌∷◌, [], List, length, IfOk, IfSome, IfNone, OnErr};
 ghost use Rattle.am_types.specs.declared.Op.{Op};
 ghost use Rattle.am_opcols.specs.Columns.{SpellsOps};
 ghost use Rattle.am_opcols.specs.Rows.{op_of};
@@ -120,6 +120,13 @@ impl<'a> OpCursor<'a> {
             expand: self.expands.next(),
             mark: self.marks.next(),
         })
+    }
+
+    /// How many operations are left.
+    pub fn left(&self) -> u64
+        ensures { result ≡ length self.now }
+    {
+        self.actions.left()
     }
 
     /// The same cursor again.

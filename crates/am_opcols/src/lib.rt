@@ -2,9 +2,12 @@
 //! and their canonical writing.
 #![tactic(auto)]
 
+mod canonical;
 mod cursor;
+mod each_column;
 mod fault;
 mod laws;
+mod listed;
 mod op;
 mod others;
 mod places;
@@ -14,6 +17,7 @@ mod write;
 mod writer;
 
 pub use am_fields::IdCursor as PredCursor;
+pub use canonical::are_canonical;
 pub use cursor::OpCursor;
 pub use fault::BadOps;
 pub use laws::{canonical_columns_spell, one_list, others_are_named};

@@ -1,0 +1,52 @@
+-- Each column of a change's operations as a reader judges it, and the other actors.
+--     CanonicalNumbers bytes, and so on     the bytes are the canonical spelling of some list of the kind, of at most 2 ^ 22
+--                                           items
+--     AreNumbersCanonical columns           so is each column of numbers, places among them
+--     AreRemainingCanonical columns         so is each column of deltas, texts and flags; that of the insert flags stands
+--                                           where there are operations
+--     AreNamed actors ops                   the operations name each of the actors
+use Rattle.std.specs.Prelude.{◌≡◌, ℕ, ◌≤◌, ◌^◌, List, [], ◌∷◌, length, Option, Bool, ℤ}
+use Rattle.std.specs.List.{flat_map, AllByRecursion}
+use Rattle.am_types.specs.declared.Op.{Op}
+use Rattle.am_runs.specs.Items.{unsigned_end, text_end}
+use Rattle.am_runs.specs.Canonical.{Canon}
+use Rattle.am_delta.specs.Deltas.{CanonDeltas}
+use Rattle.am_flags.specs.Flags.{CanonFlags, CanonMaybe}
+use Rattle.am_colmeta.specs.Metadata.{column_at}
+use Rattle.am_opcols.specs.Others.{IsThere, actors_of}
+
+abbrev pub CanonicalNumbers : List ℕ → Type 0
+CanonicalNumbers bytes = (list : List (Option (List ℕ))) × Canon unsigned_end bytes list × (length list ≤ 2 ^ 22)
+
+abbrev pub CanonicalTexts : List ℕ → Type 0
+CanonicalTexts bytes = (list : List (Option (List ℕ))) × Canon text_end bytes list × (length list ≤ 2 ^ 22)
+
+abbrev pub CanonicalDeltas : List ℕ → Type 0
+CanonicalDeltas bytes = (values : List (Option ℤ)) × CanonDeltas bytes values × (length values ≤ 2 ^ 22)
+
+abbrev pub CanonicalFlags : List ℕ → Type 0
+CanonicalFlags bytes = (flags : List Bool) × CanonFlags bytes flags × (length flags ≤ 2 ^ 22)
+
+abbrev pub CanonicalMaybe : List ℕ → Type 0
+CanonicalMaybe bytes = (flags : List Bool) × CanonMaybe bytes flags × (length flags ≤ 2 ^ 22)
+
+pub record AreNumbersCanonical (columns : List (ℕ × List ℕ)) : Type 0 where
+  pub object_actor : CanonicalNumbers (column_at columns 1)
+  pub object_counter : CanonicalNumbers (column_at columns 2)
+  pub key_actor : CanonicalNumbers (column_at columns 17)
+  pub action : CanonicalNumbers (column_at columns 66)
+  pub value : CanonicalNumbers (column_at columns 86)
+  pub count : CanonicalNumbers (column_at columns 112)
+  pub pred_actor : CanonicalNumbers (column_at columns 113)
+
+pub record AreRemainingCanonical (columns : List (ℕ × List ℕ)) : Type 0 where
+  pub key_counter : CanonicalDeltas (column_at columns 19)
+  pub pred_counter : CanonicalDeltas (column_at columns 115)
+  pub key_name : CanonicalTexts (column_at columns 21)
+  pub mark : CanonicalTexts (column_at columns 165)
+  pub insert : CanonicalFlags (column_at columns 52)
+  pub insert_stands : column_at columns 52 ≡ [] → column_at columns 66 ≡ []
+  pub expand : CanonicalMaybe (column_at columns 148)
+
+abbrev pub AreNamed : List (List ℕ) → List Op → Type 0
+AreNamed actors ops = AllByRecursion (IsThere (flat_map actors_of ops)) actors
