@@ -1,6 +1,6 @@
 -- Lists that are the same field by field, or part by part.
-use Rattle.std.proofs.Common.{◌≡◌, ℕ, List, [], ◌∷◌, ◌++◌, length, map, refl, ap, arith, sym, ◌∙◌}
-use Rattle.std.specs.List.{flat_map}
+use Rattle.std.proofs.Common.{◌≡◌, List, [], ◌∷◌, ◌++◌, length, map, refl, arith}
+use Rattle.std.specs.List.{flat_map, AllByRecursion}
 
 pub same_map_pair : {X A B : Type 0} (f : X → A) (g : X → B) (xs ys : List X) → map f xs ≡ map f ys → map g xs ≡ map g ys → map {B = A × B} (λ x. (f x, g x)) xs ≡ map (λ x. (f x, g x)) ys
 same_map_pair f g [] [] p q = refl
@@ -45,3 +45,7 @@ same_lengths f [] [] p = refl
 same_lengths f [] (y ∷ ys) p = cc
 same_lengths f (x ∷ xs) [] p = cc
 same_lengths f (x ∷ xs) (y ∷ ys) p = let more : length xs ≡ length ys = same_lengths f xs ys cc in cc
+
+pub all-append : {A : Type 0} (P : A → Type 0) (xs ys : List A) → AllByRecursion P xs → AllByRecursion P ys → AllByRecursion P (xs ++ ys)
+all-append P [] ys a b = b
+all-append P (x ∷ xs) ys a b = (a.0, all-append P xs ys a.1 b)

@@ -1,4 +1,5 @@
 pub mod Filling
+pub mod Extras
 pub mod Columns
 pub mod Layout
 pub mod Limits
@@ -7,4 +8,7 @@ pub mod Reading
 pub mod Fields
 pub mod Groups
 pub mod Writing
+pub mod Wholes
 pub mod Spelling
+pub mod Held
+pub mod Rooms

@@ -28,7 +28,8 @@ use Rattle.am_colmeta.proofs.Judging.{found_without_empty}
 use Rattle.am_fields.specs.Columns.{SpellsNumbers, SpellsColumns, place_of, numbers_bytes, spellings}
 use Rattle.am_fields.specs.Layout.{object_actor, object_counter, key_actor, key_counter, key_string, id_actor, id_counter, flat}
 use Rattle.am_opcols.specs.Columns.{op_columns, op_specifications, AreOpsWithin, SpellsOps}
-use Rattle.am_opcols.specs.Others.{IsThere, actors_of, others}
+use Rattle.am_fields.specs.Actors.{IsListed}
+use Rattle.am_opcols.specs.Others.{actors_of, others}
 use Rattle.am_opcols.specs.Writing.{written_columns}
 use Rattle.am_opcols.specs.Chains.{Chain}
 use Rattle.am_opcols.specs.EachColumn.{AreNumbersCanonical, AreRemainingCanonical, AreNamed}
@@ -217,7 +218,7 @@ written_found columns actors ops e =
 
 -- ---- the tests
 
-listed_named : (author : List ℕ) (os : List (List ℕ)) (columns : List (ℕ × List ℕ)) (ops : List Op) → SpellsOps (author ∷ os) columns ops → (a : List ℕ) → IsThere (flat_map actors_of ops) a → IsThere (author ∷ os) a
+listed_named : (author : List ℕ) (os : List (List ℕ)) (columns : List (ℕ × List ℕ)) (ops : List Op) → SpellsOps (author ∷ os) columns ops → (a : List ℕ) → IsListed (flat_map actors_of ops) a → IsListed (author ∷ os) a
 listed_named author os columns ops w a h =
     let s = w.spelled in
     let objects = s.0 in
@@ -232,7 +233,7 @@ listed_named author os columns ops w a h =
     (named_somewhere ops a h)
 
 pub tested : (author : List ℕ) (os : List (List ℕ)) (columns : List (ℕ × List ℕ)) (ops : List Op) → SpellsOps (author ∷ os) columns ops → Ascend (listing columns) → AreKnown op_specifications (listing columns)
-    → AreFilled (listing columns) → AreNumbersCanonical columns → AreRemainingCanonical columns → Chain bytes_cmp os → (IsThere os author → ⊥) → AreNamed os ops → (os ≡ others author ops) × (columns ≡ written_columns author ops)
+    → AreFilled (listing columns) → AreNumbersCanonical columns → AreRemainingCanonical columns → Chain bytes_cmp os → (IsListed os author → ⊥) → AreNamed os ops → (os ≡ others author ops) × (columns ≡ written_columns author ops)
 tested author os columns ops w up all filled n t ascends apart named =
     let own = own_others author ops os ascends apart named (listed_named author os columns ops w) in
     let found = canonical_found columns (author ∷ os) ops (Distinct-from_up author os ascends apart) w n t in
@@ -244,14 +245,14 @@ pub record Passed (author : List ℕ) (os : List (List ℕ)) (columns : List (�
   pub numbers : AreNumbersCanonical columns
   pub rest : AreRemainingCanonical columns
   pub ascend : Chain bytes_cmp os
-  pub apart : IsThere os author → ⊥
+  pub apart : IsListed os author → ⊥
   pub named : AreNamed os ops
 
 pub untested : (author : List ℕ) (os : List (List ℕ)) (columns : List (ℕ × List ℕ)) (ops : List Op) → SpellsOps (author ∷ os) columns ops → os ≡ others author ops → columns ≡ written_columns author ops → Passed author os columns ops
 untested author os columns ops w o e =
     let theirs = others_are_named author ops in
     let ascends : Chain bytes_cmp os = subst (Chain bytes_cmp) (sym o) theirs.0 in
-    let apart : IsThere os author → ⊥ = subst (λ zs. IsThere zs author → ⊥) (sym o) theirs.1 in
+    let apart : IsListed os author → ⊥ = subst (λ zs. IsListed zs author → ⊥) (sym o) theirs.1 in
     let d = Distinct-from_up author os ascends apart in
     let same : columns ≡ not_empty (spellings (author ∷ os) (op_columns ops)) = e ∙ ap (λ zs. not_empty (spellings (author ∷ zs) (op_columns ops))) (sym o) in
     let found = written_found columns (author ∷ os) ops same in

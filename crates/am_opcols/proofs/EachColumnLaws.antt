@@ -25,9 +25,9 @@ use Rattle.am_flags.proofs.Counting.{CanonFlags_iff, CanonMaybe_iff}
 use Rattle.am_flags.proofs.Judged.{plain_tells, maybe_tells}
 use Rattle.am_fields.specs.Filling.{Fills}
 use Rattle.am_fields.specs.Columns.{SpellsNumbers, SpellsDeltas, SpellsTexts, SpellsFlags, SpellsActors, Name, is_actor, place_of, numbers_bytes, texts_bytes}
-use Rattle.am_opcols.specs.Others.{IsThere}
+use Rattle.am_fields.specs.Actors.{IsListed}
 use Rattle.am_opcols.specs.EachColumn.{CanonicalNumbers, CanonicalTexts, CanonicalDeltas, CanonicalFlags, CanonicalMaybe}
-use Rattle.am_opcols.proofs.Named.{is_actor-same, is_actor-itself}
+use Rattle.am_fields.proofs.PlaceLaws.{is_actor-same, is_actor-itself}
 
 -- ---- runs
 
@@ -86,9 +86,9 @@ maybe_back bytes xs l e = (xs, (CanonMaybe_iff xs bytes (omega arith)).1 e, l)
 
 abbrev pub Distinct : List (List ℕ) → Type 0
 Distinct [] = Unit {0}
-Distinct (x ∷ xs) = (IsThere xs x → ⊥) × Distinct xs
+Distinct (x ∷ xs) = (IsListed xs x → ⊥) × Distinct xs
 
-there_at : (actors : List (List ℕ)) (p : ℕ) (a : List ℕ) → slice_get actors p ≡ Some a → IsThere actors a
+there_at : (actors : List (List ℕ)) (p : ℕ) (a : List ℕ) → slice_get actors p ≡ Some a → IsListed actors a
 there_at [] p a e = absurd (cc)
 there_at (x ∷ xs) zero a e = inl (let s : x ≡ a = cc in sym s)
 there_at (x ∷ xs) (suc p) a e = inr (there_at xs p a e)
@@ -101,7 +101,7 @@ place_at (x ∷ xs) zero a d e =
 place_at (x ∷ xs) (suc p) a d e =
     let more : place_of xs a ≡ p = place_at xs p a d.1 e in
     elim (is_actor a x) as (λ b. is_actor a x ≡ b → (if b then 0 else suc (place_of xs a)) ≡ suc p) [
-      | true ↦ λ t. absurd (d.0 (subst (IsThere xs) (is_actor-same a x t) (there_at xs p a e)))
+      | true ↦ λ t. absurd (d.0 (subst (IsListed xs) (is_actor-same a x t) (there_at xs p a e)))
       | false ↦ λ t. ap suc more
     ] refl
 
@@ -139,7 +139,7 @@ IsNamed (None ∷ names) a = IsNamed names a
 IsNamed (Some b ∷ names) a = (a ≡ b) ⊎ IsNamed names a
 
 -- the actors that places name stand there
-pub names_there : (actors : List (List ℕ)) (places : List (Option ℕ)) (names : List (Option (List ℕ))) → Name actors places names → (a : List ℕ) → IsNamed names a → IsThere actors a
+pub names_there : (actors : List (List ℕ)) (places : List (Option ℕ)) (names : List (Option (List ℕ))) → Name actors places names → (a : List ℕ) → IsNamed names a → IsListed actors a
 names_there actors places [] e a h = absurd h
 names_there actors [] (n ∷ names) e a h = absurd (cc)
 names_there actors (None ∷ places) (None ∷ names) e a h =
@@ -150,4 +150,4 @@ names_there actors (Some p ∷ places) (None ∷ names) e a h = absurd (cc)
 names_there actors (Some p ∷ places) (Some b ∷ names) e a h =
     let t : map (option_map (slice_get actors)) places ≡ map (option_map Some) names = cc in
     let g : slice_get actors p ≡ Some b = cc in
-    ⊎_elim (λ s. subst (IsThere actors) (sym s) (there_at actors p b g)) (λ m. names_there actors places names t a m) h
+    ⊎_elim (λ s. subst (IsListed actors) (sym s) (there_at actors p b g)) (λ m. names_there actors places names t a m) h

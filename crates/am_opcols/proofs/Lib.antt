@@ -1,12 +1,9 @@
 pub mod OpLaws
 pub mod OneReading
-pub mod PlaceLaws
 pub mod WriteLaws
 pub mod OtherLaws
 pub mod CanonicalLaws
-pub mod AboveLaws
 pub mod Named
-pub mod Spelled
 pub mod WrittenOps
 pub mod Chains
 pub mod NamedAlone

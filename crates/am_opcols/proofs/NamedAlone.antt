@@ -7,40 +7,42 @@ use Rattle.std.proofs.lemmas.Cmp.{nat_list_cmp_total}
 use Rattle.am_types.specs.declared.Op.{Op}
 use Rattle.am_types.specs.Order.{bytes_cmp, Ascends}
 use Rattle.am_fields.specs.Columns.{is_actor}
-use Rattle.am_opcols.specs.Others.{IsThere, actors_of, put_by, put_actor, put_other, put_others, others}
+use Rattle.am_fields.specs.Actors.{IsListed}
+use Rattle.am_fields.proofs.PlaceLaws.{is_actor-itself}
+use Rattle.am_opcols.specs.Others.{actors_of, put_by, put_actor, put_other, put_others, others}
 use Rattle.am_opcols.specs.Chains.{Chain, ChainFrom}
 use Rattle.am_opcols.proofs.Chains.{chain_ascends}
-use Rattle.am_opcols.proofs.Named.{others_there, is_actor-itself}
+use Rattle.am_opcols.proofs.Named.{others_there}
 
-there_of : (xs : List (List ℕ)) (a : List ℕ) → Contains xs a → IsThere xs a
+there_of : (xs : List (List ℕ)) (a : List ℕ) → Contains xs a → IsListed xs a
 there_of [] a (k, l, e) = absurd (omega arith)
 there_of (x ∷ xs) a (zero, l, e) = inl (sym e)
 there_of (x ∷ xs) a (suc k, l, e) = inr (there_of xs a (k, omega arith, e))
 
-contains_of : (xs : List (List ℕ)) (a : List ℕ) → IsThere xs a → Contains xs a
+contains_of : (xs : List (List ℕ)) (a : List ℕ) → IsListed xs a → Contains xs a
 contains_of [] a h = absurd h
 contains_of (x ∷ xs) a (inl e) = (0, omega arith, sym e)
 contains_of (x ∷ xs) a (inr h) = let w = contains_of xs a h in (suc w.0, (let l = w.1 in omega arith), w.2)
 
 -- what stands there was put there
 
-put_alone : (actor a : List ℕ) (known : List (List ℕ)) → IsThere (put_actor actor known) a → (a ≡ actor) ⊎ IsThere known a
+put_alone : (actor a : List ℕ) (known : List (List ℕ)) → IsListed (put_actor actor known) a → (a ≡ actor) ⊎ IsListed known a
 put_alone actor a [] h = ⊎_elim (λ e. inl e) (λ n. absurd n) h
 put_alone actor a (first ∷ rest) h =
-    elim (bytes_cmp actor first) as (λ r. IsThere (put_by r actor first rest (put_actor actor rest)) a → (a ≡ actor) ⊎ IsThere (first ∷ rest) a) [
+    elim (bytes_cmp actor first) as (λ r. IsListed (put_by r actor first rest (put_actor actor rest)) a → (a ≡ actor) ⊎ IsListed (first ∷ rest) a) [
       | Less ↦ λ g. g
       | Equal ↦ λ g. inr g
       | Greater ↦ λ g. ⊎_elim (λ e. inr (inl e)) (λ m. ⊎_elim (λ e. inl e) (λ k. inr (inr k)) (put_alone actor a rest m)) g
     ] h
 
-other_alone : (author actor a : List ℕ) (known : List (List ℕ)) → IsThere (put_other author actor known) a → ((a ≡ actor) × (a ≢ author)) ⊎ IsThere known a
+other_alone : (author actor a : List ℕ) (known : List (List ℕ)) → IsListed (put_other author actor known) a → ((a ≡ actor) × (a ≢ author)) ⊎ IsListed known a
 other_alone author actor a known h =
-    elim (is_actor actor author) as (λ b. is_actor actor author ≡ b → IsThere (if b then known else put_actor actor known) a → ((a ≡ actor) × (a ≢ author)) ⊎ IsThere known a) [
+    elim (is_actor actor author) as (λ b. is_actor actor author ≡ b → IsListed (if b then known else put_actor actor known) a → ((a ≡ actor) × (a ≢ author)) ⊎ IsListed known a) [
       | true ↦ λ t g. inr g
       | false ↦ λ t g. ⊎_elim (λ e. inl (e, λ same. let itself : is_actor actor author ≡ true = ap (λ x. is_actor actor x) (sym same ∙ e) ∙ is_actor-itself actor in cc)) (λ k. inr k) (put_alone actor a known g)
     ] refl h
 
-pub others_alone : (author : List ℕ) (xs known : List (List ℕ)) (a : List ℕ) → IsThere (put_others author xs known) a → (IsThere xs a × (a ≢ author)) ⊎ IsThere known a
+pub others_alone : (author : List ℕ) (xs known : List (List ℕ)) (a : List ℕ) → IsListed (put_others author xs known) a → (IsListed xs a × (a ≢ author)) ⊎ IsListed known a
 others_alone author [] known a h = inr h
 others_alone author (x ∷ xs) known a h =
     ⊎_elim (λ w. inl (inr w.0, w.1)) (λ k. ⊎_elim (λ w. inl (inl w.0, w.1)) (λ m. inr m) (other_alone author x a known k)) (others_alone author xs (put_other author x known) a h)

@@ -7,9 +7,13 @@ use Rattle.am_types.specs.declared.ObjId.{ObjId}
 use Rattle.am_types.specs.declared.Key.{Key}
 use Rattle.am_types.specs.declared.RawValue.{RawValue}
 use Rattle.am_types.specs.declared.Op.{Op}
+use Rattle.am_runs.specs.Typed.{JoinsUnsigned}
+use Rattle.am_values.specs.Columns.{metadata}
 use Rattle.am_colmeta.specs.Metadata.{column_at}
 use Rattle.am_fields.specs.Columns.{SpellsFlags, SpellsTexts}
-use Rattle.am_fields.specs.Spelling.{SpellsObjects, SpellsKeys, SpellsActions, SpellsValues, SpellsGroups}
+use Rattle.am_fields.specs.Spelling.{SpellsGiven, SpellsObjects, SpellsKeys, SpellsActions, SpellsValues, SpellsGroups}
+use Rattle.am_fields.proofs.OneColumn.{numbers_one}
+use Rattle.am_fields.proofs.ReadAs.{Reads-given, given-Reads}
 use Rattle.am_fields.proofs.GroupLaws.{actions_one}
 use Rattle.am_opcols.specs.Columns.{SpellsOps}
 use Rattle.am_opcols.specs.Rows.{op_with, ops_from}
@@ -109,8 +113,9 @@ pub SpellsOps-made : (actors : List (List ℕ)) (columns : List (ℕ × List ℕ
     → SpellsGroups actors (column_at columns 112) (column_at columns 113) (column_at columns 115) ps
     → SpellsFlags (column_at columns 148) es
     → SpellsTexts (column_at columns 165) ms
+    → (n : ℕ) → length vs ≡ n → SpellsGiven n (column_at columns 86) → length ps ≡ n → SpellsGiven n (column_at columns 112)
     → SpellsOps actors columns ops
-SpellsOps-made actors columns ops os ks is xs vs ps es ms f so sk si sx sv sp se sm =
+SpellsOps-made actors columns ops os ks is xs vs ps es ms f so sk si sx sv sp se sm n nv gv np gp =
     let P1 : List ObjId → Type 0 = λ zs. SpellsObjects actors (column_at columns 1) (column_at columns 2) zs in
     let P2 : List Key → Type 0 = λ zs. SpellsKeys actors (column_at columns 17) (column_at columns 19) (column_at columns 21) zs in
     let P3 : List Bool → Type 0 = λ zs. SpellsFlags (column_at columns 52) zs in
@@ -127,8 +132,14 @@ SpellsOps-made actors columns ops os ks is xs vs ps es ms f so sk si sx sv sp se
     let p = subst P6 (sym f.preds) sp in
     let e = subst P7 (sym f.expands) se in
     let m = subst P8 (sym f.marks) sm in
+    let numbers = map metadata (map (λ o. o.value) ops) in
+    let lengths = map length (map (λ o. o.preds) ops) in
+    let ln : length gv.0 ≡ length numbers = gv.2 ∙ sym nv ∙ sym (ap length f.values) ∙ sym (length-map (map (λ o. o.value) ops) metadata) in
+    let ll : length gp.0 ≡ length lengths = gp.2 ∙ sym np ∙ sym (ap length f.preds) ∙ sym (length-map (map (λ o. o.preds) ops) length) in
+    let number_column = given-Reads JoinsUnsigned 0 numbers_one (column_at columns 86) numbers gv.0 v.number_column gv.1 ln in
+    let group_column = given-Reads JoinsUnsigned 0 numbers_one (column_at columns 112) lengths gp.0 p.group_column gp.1 ll in
     record {
-      spelled = (o.actor_column, (o.counter_column, (k.actor_column, (k.counter_column, (k.string_column, (i, (x.action_column, (v.number_column, (v.raw_column, (p.group_column, ((p.ids).actor_column, ((p.ids).counter_column, (e, (m, tt))))))))))))));
+      spelled = (o.actor_column, (o.counter_column, (k.actor_column, (k.counter_column, (k.string_column, (i, (x.action_column, (number_column, (v.raw_column, (group_column, ((p.ids).actor_column, ((p.ids).counter_column, (e, (m, tt))))))))))))));
       within = record {
         objects = o.within;
         keys = k.within;
@@ -157,14 +168,23 @@ actions_of actors columns ops s =
     record { action_column = (s.spelled).1.1.1.1.1.1.0; known = (s.within).actions; few = omega (arith, length-map ops (λ o. o.action)) }
 
 pub values_of : (actors : List (List ℕ)) (columns : List (ℕ × List ℕ)) (ops : List Op) → SpellsOps actors columns ops → SpellsValues (column_at columns 86) (column_at columns 87) (map (λ o. o.value) ops)
-values_of actors columns ops s = record { number_column = (s.spelled).1.1.1.1.1.1.1.0; raw_column = (s.spelled).1.1.1.1.1.1.1.1.0; good = (s.within).values }
+values_of actors columns ops s = record { number_column = Reads-given JoinsUnsigned 0 (column_at columns 86) (map metadata (map (λ o. o.value) ops)) (s.spelled).1.1.1.1.1.1.1.0; raw_column = (s.spelled).1.1.1.1.1.1.1.1.0; good = (s.within).values }
 
 pub preds_of : (actors : List (List ℕ)) (columns : List (ℕ × List ℕ)) (ops : List Op) → SpellsOps actors columns ops → SpellsGroups actors (column_at columns 112) (column_at columns 113) (column_at columns 115) (map (λ o. o.preds) ops)
 preds_of actors columns ops s = record {
-  group_column = (s.spelled).1.1.1.1.1.1.1.1.1.0;
+  group_column = Reads-given JoinsUnsigned 0 (column_at columns 112) (map length (map (λ o. o.preds) ops)) (s.spelled).1.1.1.1.1.1.1.1.1.0;
   ids = record { actor_column = (s.spelled).1.1.1.1.1.1.1.1.1.1.0; counter_column = (s.spelled).1.1.1.1.1.1.1.1.1.1.1.0; within = (s.within).preds };
   few = (s.within).few_preds;
 }
+
+-- all metadata of values and all lengths of groups stand
+pub numbers_given : (actors : List (List ℕ)) (columns : List (ℕ × List ℕ)) (ops : List Op) → SpellsOps actors columns ops → (n : ℕ) → length ops ≡ n → SpellsGiven n (column_at columns 86)
+numbers_given actors columns ops s n e =
+    (map metadata (map (λ o. o.value) ops), (s.spelled).1.1.1.1.1.1.1.0, length-map (map (λ o. o.value) ops) metadata ∙ length-map ops (λ o. o.value) ∙ e)
+
+pub lengths_given : (actors : List (List ℕ)) (columns : List (ℕ × List ℕ)) (ops : List Op) → SpellsOps actors columns ops → (n : ℕ) → length ops ≡ n → SpellsGiven n (column_at columns 112)
+lengths_given actors columns ops s n e =
+    (map length (map (λ o. o.preds) ops), (s.spelled).1.1.1.1.1.1.1.1.1.0, length-map (map (λ o. o.preds) ops) length ∙ length-map ops (λ o. o.preds) ∙ e)
 
 pub expands_of : (actors : List (List ℕ)) (columns : List (ℕ × List ℕ)) (ops : List Op) → SpellsOps actors columns ops → SpellsFlags (column_at columns 148) (map (λ o. o.expand) ops)
 expands_of actors columns ops s = (s.spelled).1.1.1.1.1.1.1.1.1.1.1.1.0

@@ -5,6 +5,7 @@ use Rattle.am_types.specs.Order.{bytes_cmp}
 use Rattle.std.proofs.lemmas.List.{map-append, append-nil}
 use Rattle.am_types.specs.declared.OpId.{OpId}
 use Rattle.am_types.specs.declared.Op.{Op}
+use Rattle.am_fields.proofs.WriteLaws.{take_next}
 use Rattle.am_opcols.specs.Others.{put_by, put_actor, put_other, put_others, actors_of, others}
 
 pub put_less : (known : List (List ℕ)) (i : ℕ) (actor at : List ℕ) → i < length known → at ≡ get_or known i at → bytes_cmp actor at ≡ Less → put_actor actor (drop i known) ≡ actor ∷ drop i known
@@ -38,14 +39,6 @@ flat-next (o ∷ ops) op = ap (λ zs. actors_of o ++ zs) (flat-next ops op) ∙ 
 
 pub others-next : (author : List ℕ) (ops : List Op) (op : Op) → others author (ops ++ op ∷ []) ≡ put_others author (actors_of op) (others author ops)
 others-next author ops op = ap (λ zs. put_others author zs []) (flat-next ops op) ∙ put_others-append author (flat_map actors_of ops) (actors_of op) []
-
-take_suc : {A : Type 0} (xs : List A) (i : ℕ) (x : A) → i < length xs → x ≡ get_or xs i x → take (suc i) xs ≡ take i xs ++ x ∷ []
-take_suc [] i x n e = absurd (omega arith)
-take_suc (y ∷ xs) zero x n e = let same : x ≡ y = e in ap (λ o. o ∷ []) (sym same)
-take_suc (y ∷ xs) (suc i) x n e = ap (λ zs. y ∷ zs) (take_suc xs i x (omega arith) e)
-
-pub take_next : {A : Type 0} (xs : List A) (i : ℕ) (x : A) → i < length xs → x ≡ get_or xs i x → take (i + 1) xs ≡ take i xs ++ x ∷ []
-take_next xs i x n e = ap (λ k. take k xs) (add-one i) ∙ take_suc xs i x n e
 
 pub ids-next : (author : List ℕ) (ids : List OpId) (i : ℕ) (id : OpId) (old now new : List (List ℕ)) → i < length ids → id ≡ get_or ids i id
     → now ≡ put_others author (map (λ x. x.actor) (take i ids)) old → new ≡ put_other author id.actor now → new ≡ put_others author (map (λ x. x.actor) (take (i + 1) ids)) old

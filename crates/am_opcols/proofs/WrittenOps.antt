@@ -28,7 +28,8 @@ use Rattle.am_opcols.specs.Writing.{written_columns}
 use Rattle.am_opcols.proofs.WriteLaws.{pred_count-cons}
 use Rattle.am_opcols.proofs.CanonicalLaws.{keys_middling, preds_middling, values_good, length-preds}
 use Rattle.am_opcols.proofs.Named.{all_covered, objects_known, keys_known, preds_known, length-others}
-use Rattle.am_opcols.proofs.Spelled.{numbers_spelled, texts_spelled, texts_short, deltas_spelled, flags_spelled, rare_flags_spelled, actors_spelled}
+use Rattle.am_fields.proofs.Lists.{all-append}
+use Rattle.am_fields.proofs.Spelled.{numbers_spelled, texts_spelled, texts_short, deltas_spelled, flags_spelled, rare_flags_spelled, actors_spelled}
 
 -- what holds of each operation, of each of one field
 
@@ -39,10 +40,6 @@ fit_map f Fit P each (x ∷ xs) all = (each x all.0, fit_map f Fit P each xs all
 all_map : {A B : Type 0} (f : A → B) (Q : B → Type 0) (P : A → Type 0) → ((x : A) → P x → Q (f x)) → (xs : List A) → AllByRecursion P xs → AllByRecursion Q (map f xs)
 all_map f Q P each [] all = tt
 all_map f Q P each (x ∷ xs) all = (each x all.0, all_map f Q P each xs all.1)
-
-all-append : {A : Type 0} (P : A → Type 0) (xs ys : List A) → AllByRecursion P xs → AllByRecursion P ys → AllByRecursion P (xs ++ ys)
-all-append P [] ys a b = b
-all-append P (x ∷ xs) ys a b = (a.0, all-append P xs ys a.1 b)
 
 all_flat : {A : Type 0} (P : A → Type 0) (xss : List (List A)) → AllByRecursion (λ xs. AllByRecursion P xs) xss → AllByRecursion P (flat xss)
 all_flat P [] all = tt

@@ -13,7 +13,8 @@ use Rattle.am_runs.specs.Canonical.{Canon}
 use Rattle.am_delta.specs.Deltas.{CanonDeltas}
 use Rattle.am_flags.specs.Flags.{CanonFlags, CanonMaybe}
 use Rattle.am_colmeta.specs.Metadata.{column_at}
-use Rattle.am_opcols.specs.Others.{IsThere, actors_of}
+use Rattle.am_fields.specs.Actors.{IsListed}
+use Rattle.am_opcols.specs.Others.{actors_of}
 
 abbrev pub CanonicalNumbers : List ℕ → Type 0
 CanonicalNumbers bytes = (list : List (Option (List ℕ))) × Canon unsigned_end bytes list × (length list ≤ 2 ^ 22)
@@ -49,4 +50,4 @@ pub record AreRemainingCanonical (columns : List (ℕ × List ℕ)) : Type 0 whe
   pub expand : CanonicalMaybe (column_at columns 148)
 
 abbrev pub AreNamed : List (List ℕ) → List Op → Type 0
-AreNamed actors ops = AllByRecursion (IsThere (flat_map actors_of ops)) actors
+AreNamed actors ops = AllByRecursion (IsListed (flat_map actors_of ops)) actors

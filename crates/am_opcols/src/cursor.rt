@@ -9,7 +9,7 @@ use crate::op::OpRef;
 use am_colmeta::{ActorList, Columns};
 use am_fields::{
     ActionColumn, Actors, BadFields, FlagColumn, GroupColumns, KeyColumns, ObjectColumns,
-    TextColumn, ValueColumns,
+    TextColumn, ValueColumns, is_given,
 };
 use std::marker::Model;
 
@@ -45,7 +45,8 @@ impl<'a> Model for OpCursor<'a> {
         × (length c.marks ≡ length c.actions) };
 }
 
-// The cursor over columns whose places name these actors.
+// The cursor over columns whose places name these actors. In a change all metadata of values and all lengths of groups
+// stand.
 fn opened<'a>(columns: &Columns<'a>, actors: &Actors<'a>) -> Result<OpCursor<'a>, BadFields>
     ensures spelled { IfOk result (SpellsOps actors.now columns.now) }
     ensures err { OnErr result ((ops : List Op) → SpellsOps actors.now columns.now ops → ⊥) }
@@ -70,7 +71,13 @@ fn opened<'a>(columns: &Columns<'a>, actors: &Actors<'a>) -> Result<OpCursor<'a>
     let keys = KeyColumns::over(key_actor, key_counter, key_name, actors, count)?;
     let inserts = FlagColumn::over(insert, count)?;
     let values = ValueColumns::over(numbers, raw, count)?;
+    if !is_given(numbers, count) {
+        return Err(BadFields);
+    }
     let preds = GroupColumns::over(group, pred_actor, pred_counter, actors, count)?;
+    if !is_given(group, count) {
+        return Err(BadFields);
+    }
     let expands = FlagColumn::over(expand, count)?;
     let marks = TextColumn::over(mark, count)?;
     Ok(OpCursor {

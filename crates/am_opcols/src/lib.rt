@@ -10,7 +10,6 @@ mod laws;
 mod listed;
 mod op;
 mod others;
-mod places;
 #[cfg(test)]
 mod tests;
 mod write;

@@ -5,7 +5,8 @@ ghost use Rattle.std.specs.Option.{option_to_list};
 ghost use Rattle.am_types.specs.Views.{object_of, key_of};
 ghost use Rattle.am_fields.specs.Layout.{object_actor, key_actor};
 ghost use Rattle.am_types.specs.Order.{bytes_cmp};
-ghost use Rattle.am_opcols.specs.Others.{IsThere, actors_of};
+ghost use Rattle.am_fields.specs.Actors.{IsListed};
+ghost use Rattle.am_opcols.specs.Others.{actors_of};
 ghost use Rattle.am_opcols.specs.Rows.{op_of};
 ghost use Rattle.am_opcols.specs.Chains.{Chain};
 ghost use Rattle.am_opcols.specs.EachColumn.{AreNamed};
@@ -24,7 +25,7 @@ fn is_same(a: &[u8], b: &[u8]) -> bool
 }
 
 fn object_names(object: ObjRef<'_>, actor: &[u8]) -> bool
-    ensures { IsTrue result ↔ IsThere (option_to_list (object_actor (object_of object.entry))) actor.now }
+    ensures { IsTrue result ↔ IsListed (option_to_list (object_actor (object_of object.entry))) actor.now }
 {
     match object {
         ObjRef::Root => false,
@@ -33,7 +34,7 @@ fn object_names(object: ObjRef<'_>, actor: &[u8]) -> bool
 }
 
 fn key_names(key: KeyRef<'_>, actor: &[u8]) -> bool
-    ensures { IsTrue result ↔ IsThere (option_to_list (key_actor (key_of key.entry))) actor.now }
+    ensures { IsTrue result ↔ IsListed (option_to_list (key_actor (key_of key.entry))) actor.now }
 {
     match key {
         KeyRef::Name(_) => false,
@@ -43,7 +44,7 @@ fn key_names(key: KeyRef<'_>, actor: &[u8]) -> bool
 }
 
 fn ids_name(ids: IdCursor<'_>, actor: &[u8]) -> bool
-    ensures { IsTrue result ↔ IsThere (map (λ id. id.actor) ids.entry) actor.now }
+    ensures { IsTrue result ↔ IsListed (map (λ id. id.actor) ids.entry) actor.now }
 {
     let mut rest = ids;
     while let Some(id) = rest.next() {
@@ -56,14 +57,14 @@ fn ids_name(ids: IdCursor<'_>, actor: &[u8]) -> bool
 
 // Whether the operation names the actor.
 fn op_names(op: OpRef<'_>, actor: &[u8]) -> bool
-    ensures { IsTrue result ↔ IsThere (actors_of (op_of op.entry)) actor.now }
+    ensures { IsTrue result ↔ IsListed (actors_of (op_of op.entry)) actor.now }
 {
     object_names(op.obj, actor) || key_names(op.key, actor) || ids_name(op.preds, actor)
 }
 
 // Whether some operation names the actor. It goes as far as the first that does.
 fn is_named(actor: &[u8], ops: &OpCursor<'_>) -> bool
-    ensures { IsTrue result ↔ IsThere (flat_map actors_of ops.now) actor.now }
+    ensures { IsTrue result ↔ IsListed (flat_map actors_of ops.now) actor.now }
 {
     let mut rest = ops.again();
     while let Some(op) = rest.next() {
@@ -89,7 +90,7 @@ pub fn are_named(actors: &ActorList<'_>, ops: &OpCursor<'_>) -> bool
 
 // Whether the actor is listed.
 pub fn lists(actors: &ActorList<'_>, actor: &[u8]) -> bool
-    ensures { IsTrue result ↔ IsThere actors.now actor.now }
+    ensures { IsTrue result ↔ IsListed actors.now actor.now }
 {
     let mut rest = actors.again();
     while let Some(other) = rest.next() {

@@ -1,15 +1,15 @@
 //! Writing the operations of a change to their canonical columns.
 ghost use Rattle.std.specs.Prelude.{◌≡◌, ◌≤◌, ◌^◌, All, length, IfOk};
 ghost use Rattle.am_types.specs.Fine.{FineOp, pred_count};
-ghost use Rattle.am_colmeta.specs.Metadata.{metadata, listing, body, not_empty, Ascend};
+ghost use Rattle.am_colmeta.specs.Metadata.{metadata, listing, body, not_empty};
 ghost use Rattle.am_fields.specs.Columns.{spellings};
 ghost use Rattle.am_opcols.specs.Columns.{op_columns};
 ghost use Rattle.am_opcols.specs.Others.{others};
-ghost use Rattle.am_opcols.specs.Writing.{Wrote, lent, written_columns};
+ghost use Rattle.am_opcols.specs.Writing.{Wrote, written_columns};
 
 use crate::others::others_of;
 use crate::writer::OpWriter;
-use am_colmeta::ColumnWriter;
+use am_fields::columns_of;
 use am_types::{ActorId, Bytes, List, Op, Twin};
 use std::alloc::{AllocError, Global};
 
@@ -22,19 +22,6 @@ pub struct OpsText {
     pub metadata: Bytes,
     /// The columns, one after another.
     pub body: Bytes,
-}
-
-// The metadata and the body of these columns, which ascend.
-fn columns_of(alloc: Global, columns: &[(u64, &[u8])]) -> Result<(Bytes, Bytes), AllocError>
-    requires { Ascend (listing (lent columns.now)) }
-    ensures metadata { IfOk result (λ text. text.0 ≡ metadata (listing (not_empty (lent columns.now)))) }
-    ensures body { IfOk result (λ text. text.1 ≡ body (not_empty (lent columns.now))) }
-{
-    let mut writer = ColumnWriter::new(alloc);
-    for column in columns {
-        writer.push(column.0, column.1)?;
-    }
-    writer.finish()
 }
 
 // Writes the operations one after another.
@@ -51,6 +38,40 @@ fn written(alloc: Global, actors: &[ActorId], ops: &[Op]) -> Result<OpWriter, Al
     Ok(writer)
 }
 
+// The columns of the operations that were written, one after another.
+fn columns_in(
+    alloc: Global,
+    writer: OpWriter,
+    actors: &[ActorId],
+    ops: &[Op],
+) -> Result<Vec<(u64, Bytes)>, AllocError>
+    requires written { Wrote actors.now ops.now writer }
+    requires fine { All FineOp ops.now }
+    requires few { length ops.now ≤ 2 ^ 22 }
+    requires few_preds { pred_count ops.now ≤ 2 ^ 22 }
+    ensures { IfOk result (λ columns. columns.items ≡ spellings actors.now (op_columns ops.now)) }
+{
+    let fields = writer.fields.finish()?;
+    let lengths = writer.lengths.finish()?;
+    let (places, counters) = writer.preds.finish()?;
+    let mut columns = Vec::new(alloc);
+    columns.push((1, fields.object_actor))?;
+    columns.push((2, fields.object_counter))?;
+    columns.push((17, fields.key_actor))?;
+    columns.push((19, fields.key_counter))?;
+    columns.push((21, fields.key_name))?;
+    columns.push((52, fields.insert))?;
+    columns.push((66, fields.action))?;
+    columns.push((86, fields.numbers))?;
+    columns.push((87, fields.raw))?;
+    columns.push((112, lengths))?;
+    columns.push((113, places))?;
+    columns.push((115, counters))?;
+    columns.push((148, fields.expand))?;
+    columns.push((165, fields.mark))?;
+    Ok(columns)
+}
+
 // The metadata and the body of the operations that were written.
 fn finished(
     alloc: Global,
@@ -65,38 +86,8 @@ fn finished(
     ensures metadata { IfOk result (λ text. text.0 ≡ metadata (listing (not_empty (spellings actors.now (op_columns ops.now))))) }
     ensures body { IfOk result (λ text. text.1 ≡ body (not_empty (spellings actors.now (op_columns ops.now)))) }
 {
-    let object_actor = writer.object_actor.finish()?;
-    let object_counter = writer.object_counter.finish()?;
-    let key_actor = writer.key_actor.finish()?;
-    let key_counter = writer.key_counter.finish()?;
-    let key_name = writer.key_name.finish()?;
-    let insert = writer.insert.finish_plain()?;
-    let action = writer.action.finish()?;
-    let (numbers, raw) = writer.value.finish()?;
-    let count = writer.count.finish()?;
-    let pred_actor = writer.pred_actor.finish()?;
-    let pred_counter = writer.pred_counter.finish()?;
-    let expand = writer.expand.finish_maybe()?;
-    let mark = writer.mark.finish()?;
-    columns_of(
-        alloc,
-        &[
-            (1, object_actor.as_slice()),
-            (2, object_counter.as_slice()),
-            (17, key_actor.as_slice()),
-            (19, key_counter.as_slice()),
-            (21, key_name.as_slice()),
-            (52, insert.as_slice()),
-            (66, action.as_slice()),
-            (86, numbers.as_slice()),
-            (87, raw.as_slice()),
-            (112, count.as_slice()),
-            (113, pred_actor.as_slice()),
-            (115, pred_counter.as_slice()),
-            (148, expand.as_slice()),
-            (165, mark.as_slice()),
-        ],
-    )
+    let columns = columns_in(alloc, writer, actors, ops)?;
+    columns_of(alloc, &columns)
 }
 
 /// The columns of the operations of a fine change by this author, in their canonical spelling.

@@ -1,0 +1,22 @@
+use Rattle.std.proofs.Common.{length, arith}
+use Rattle.std.proofs.lemmas.List.{length-map}
+use Rattle.am_fields.specs.Layout.{key_counter}
+use Rattle.am_fields.proofs.CanonicalLaws.{numbers_canonical, texts_canonical, deltas_canonical, flags_canonical, maybe_canonical, values_canonical}
+use Rattle.am_fields.proofs.field_writer.FieldWriter.finish.Goals as goal
+
+pub returns : goal.returns
+returns c actors x held fit =
+    let values = values_canonical _ _ _ _ held.value fit.values fit.few_values c.in_ok-numbers.ensures.ok in
+    record {
+      object_actor = numbers_canonical _ _ _ held.object_actor c.in_ok-object_actor.ensures.ok;
+      object_counter = numbers_canonical _ _ _ held.object_counter c.in_ok-object_counter.ensures.ok;
+      key_actor = numbers_canonical _ _ _ held.key_actor c.in_ok-key_actor.ensures.ok;
+      key_counter = deltas_canonical _ _ _ held.key_counter fit.keys (omega (arith, fit.few_keys, length-map x.keys key_counter)) c.in_ok-key_counter.ensures.ok;
+      key_name = texts_canonical _ _ _ held.key_name c.in_ok-key_name.ensures.ok;
+      insert = flags_canonical _ _ _ held.insert fit.few_inserts c.in_ok-insert.ensures.ok;
+      action = numbers_canonical _ _ _ held.action c.in_ok-action.ensures.ok;
+      numbers = values.0;
+      raw = values.1;
+      expand = maybe_canonical _ _ _ held.expand fit.few_expands c.in_ok-expand.ensures.ok;
+      mark = texts_canonical _ _ _ held.mark c.in_ok-mark.ensures.ok;
+    }

@@ -1,0 +1,31 @@
+-- The writers of several columns have room for one more.
+use Rattle.std.specs.Prelude.{◌<◌, ◌≤◌, ◌^◌, List, length, Option, IfSome}
+use Rattle.am_fields.specs.declared.field_writer.FieldWriter.{FieldWriter}
+
+-- fewer than 2 ^ 32 items were written
+abbrev pub IsOpen : {A : Type 0} → Option (List A) → Type 0
+IsOpen items = IfSome items (λ xs. length xs < 2 ^ 32)
+
+pub record FieldsHaveRoom (w : FieldWriter) : Type 0 where
+  pub object_actor : IsOpen w.object_actor
+  pub object_counter : IsOpen w.object_counter
+  pub key_actor : IsOpen w.key_actor
+  pub key_counter : IsOpen w.key_counter
+  pub key_name : IsOpen w.key_name
+  pub insert : IsOpen w.insert
+  pub action : IsOpen w.action
+  pub value : IsOpen w.value
+  pub expand : IsOpen w.expand
+  pub mark : IsOpen w.mark
+
+-- at most 2 ^ 32 items were written
+abbrev pub IsShort : {A : Type 0} → Option (List A) → Type 0
+IsShort items = IfSome items (λ xs. length xs ≤ 2 ^ 32)
+
+pub record AreShort (w : FieldWriter) : Type 0 where
+  pub object_actor : IsShort w.object_actor
+  pub object_counter : IsShort w.object_counter
+  pub key_actor : IsShort w.key_actor
+  pub key_name : IsShort w.key_name
+  pub action : IsShort w.action
+  pub mark : IsShort w.mark

@@ -1,0 +1,130 @@
+//! Writing the fields that operations and rows have in common.
+
+use crate::number_writer::NumberWriter;
+use crate::places::{key_counter, key_name, key_place, object_counter, object_place};
+use crate::text_writer::TextWriter;
+use am_delta::DeltaWriter;
+use am_flags::FlagWriter;
+use am_types::{ActorId, Bytes, KeyRef, ObjRef, ValueRef};
+use am_values::ValueWriter;
+use std::alloc::{AllocError, Global};
+
+/// The fields that operations and rows have in common, lent.
+#[derive(Clone, Copy)]
+pub struct Fields<'a> {
+    pub obj: ObjRef<'a>,
+    pub key: KeyRef<'a>,
+    pub insert: bool,
+    pub action: u8,
+    pub value: ValueRef<'a>,
+    pub expand: bool,
+    pub mark: Option<&'a str>,
+}
+
+/// The writers of their columns.
+#[derive(Drop)]
+pub struct FieldWriter {
+    pub object_actor: NumberWriter,
+    pub object_counter: NumberWriter,
+    pub key_actor: NumberWriter,
+    pub key_counter: DeltaWriter,
+    pub key_name: TextWriter,
+    pub insert: FlagWriter,
+    pub action: NumberWriter,
+    pub value: ValueWriter,
+    pub expand: FlagWriter,
+    pub mark: TextWriter,
+}
+
+/// The bytes of their columns.
+#[derive(Drop)]
+pub struct FieldText {
+    pub object_actor: Bytes,
+    pub object_counter: Bytes,
+    pub key_actor: Bytes,
+    pub key_counter: Bytes,
+    pub key_name: Bytes,
+    pub insert: Bytes,
+    pub action: Bytes,
+    pub numbers: Bytes,
+    pub raw: Bytes,
+    pub expand: Bytes,
+    pub mark: Bytes,
+}
+
+impl FieldWriter {
+    ghost use Rattle.std.specs.Prelude.{[], ℕ, List, OnOk, IfOk};
+    ghost use Rattle.am_types.specs.Fine.{IsKey};
+    ghost use Rattle.am_types.specs.Values.{Good};
+    ghost use Rattle.am_types.specs.Views.{key_of, value_of};
+    ghost use Rattle.am_fields.specs.Held.{FieldLists, FieldsHeld, FieldsFit, FieldsSpelled, with_fields};
+    ghost use Rattle.am_fields.specs.Rooms.{FieldsHaveRoom, AreShort};
+
+    /// No fields.
+    pub fn new(alloc: Global) -> Self
+        ensures { (actors : List (List ℕ)) → FieldsHeld actors (record { objects = []; keys = []; inserts = []; actions = []; values = []; expands = []; marks = [] }) result }
+    {
+        FieldWriter {
+            object_actor: NumberWriter::new(alloc),
+            object_counter: NumberWriter::new(alloc),
+            key_actor: NumberWriter::new(alloc),
+            key_counter: DeltaWriter::new(alloc),
+            key_name: TextWriter::new(alloc),
+            insert: FlagWriter::new(alloc),
+            action: NumberWriter::new(alloc),
+            value: ValueWriter::new(alloc),
+            expand: FlagWriter::new(alloc),
+            mark: TextWriter::new(alloc),
+        }
+    }
+
+    /// Appends the fields of one more. The places of actors are those among these actors.
+    pub fn push(&mut self, actors: &[ActorId], fields: Fields<'_>) -> Result<(), AllocError>
+        requires room { FieldsHaveRoom self.old }
+        requires key { IsKey (key_of fields.key) }
+        requires value { Good (value_of fields.value) }
+        ensures { OnOk result ((x : FieldLists) → FieldsHeld actors.now x self.old → FieldsHeld actors.now (with_fields x fields.entry) self.new) }
+    {
+        self.object_actor.push(object_place(actors, fields.obj))?;
+        self.object_counter.push(object_counter(fields.obj))?;
+        self.key_actor.push(key_place(actors, fields.key))?;
+        self.key_counter.push(key_counter(fields.key))?;
+        self.key_name.push(key_name(fields.key))?;
+        self.insert.push(fields.insert)?;
+        self.action.push(Some(u64::from(fields.action)))?;
+        self.value.push(fields.value)?;
+        self.expand.push(fields.expand)?;
+        self.mark.push(fields.mark)
+    }
+
+    /// The columns, each in its one canonical spelling: those of flags that are always listed with runs of both values,
+    /// and those that are left out where all are false.
+    pub fn finish(self) -> Result<FieldText, AllocError>
+        requires { AreShort self }
+        ensures { IfOk result (λ text. (actors : List (List ℕ)) (x : FieldLists) → FieldsHeld actors x self → FieldsFit x → FieldsSpelled actors x text) }
+    {
+        let object_actor = self.object_actor.finish()?;
+        let object_counter = self.object_counter.finish()?;
+        let key_actor = self.key_actor.finish()?;
+        let key_counter = self.key_counter.finish()?;
+        let key_name = self.key_name.finish()?;
+        let insert = self.insert.finish_plain()?;
+        let action = self.action.finish()?;
+        let (numbers, raw) = self.value.finish()?;
+        let expand = self.expand.finish_maybe()?;
+        let mark = self.mark.finish()?;
+        Ok(FieldText {
+            object_actor,
+            object_counter,
+            key_actor,
+            key_counter,
+            key_name,
+            insert,
+            action,
+            numbers,
+            raw,
+            expand,
+            mark,
+        })
+    }
+}

@@ -1,0 +1,105 @@
+//! Writing ids to a column of places and one of counters.
+ghost use Rattle.std.specs.Prelude.{◌≡◌, ◌+◌, ◌<◌, ◌≤◌, ◌++◌, ◌∷◌, ◌^◌, [], List, Some, All, map, option_map, length, IfSome, OnOk};
+ghost use Rattle.am_types.specs.Fine.{IsId};
+ghost use Rattle.am_types.specs.Views.{id_of};
+ghost use Rattle.am_fields.specs.Columns.{place_of};
+ghost use Rattle.am_fields.specs.Layout.{id_actor, id_counter};
+
+use crate::number_writer::NumberWriter;
+use crate::places::place_in;
+use am_delta::DeltaWriter;
+use am_types::{ActorId, Bytes, IdRef, OpId};
+use std::alloc::{AllocError, Global};
+
+/// The writers of the two columns.
+#[derive(Drop)]
+pub struct IdWriter {
+    pub places: NumberWriter,
+    pub counters: DeltaWriter,
+}
+
+// Appends an id.
+fn push_id(
+    places: &mut NumberWriter,
+    counters: &mut DeltaWriter,
+    actors: &[ActorId],
+    id: IdRef<'_>,
+) -> Result<(), AllocError>
+    requires places { IfSome places.old (λ xs. length xs < 2 ^ 32) }
+    requires counters { IfSome counters.old (λ xs. length xs < 2 ^ 32) }
+    requires id { IsId (id_of id) }
+    ensures places { OnOk result (IfSome places.old (λ xs. places.new ≡ Some (xs ++ option_map (place_of actors.now) (id_actor (id_of id.entry)) ∷ []))) }
+    ensures counters { OnOk result (IfSome counters.old (λ xs. counters.new ≡ Some (xs ++ id_counter (id_of id.entry) ∷ []))) }
+{
+    places.push(Some(place_in(actors, id.actor)))?;
+    counters.push(Some(id.counter as i64))
+}
+
+// Appends ids.
+fn push_ids(
+    places: &mut NumberWriter,
+    counters: &mut DeltaWriter,
+    actors: &[ActorId],
+    ids: &[OpId],
+) -> Result<(), AllocError>
+    requires places { IfSome places.old (λ xs. length xs + length ids.now ≤ 2 ^ 32) }
+    requires counters { IfSome counters.old (λ xs. length xs + length ids.now ≤ 2 ^ 32) }
+    requires ids { All IsId ids.now }
+    ensures places { OnOk result (IfSome places.old (λ xs. places.new ≡ Some (xs ++ map (option_map (place_of actors.now)) (map id_actor ids.now)))) }
+    ensures counters { OnOk result (IfSome counters.old (λ xs. counters.new ≡ Some (xs ++ map id_counter ids.now))) }
+{
+    for id in ids {
+        places.push(Some(place_in(actors, id.actor.as_slice())))?;
+        counters.push(Some(id.counter as i64))?;
+    }
+    Ok(())
+}
+
+impl IdWriter {
+    ghost use Rattle.std.specs.Prelude.{◌+◌, ◌≤◌, ◌++◌, ◌∷◌, ◌^◌, [], List, ℕ, All, length, IfOk, IfSome, OnOk};
+    ghost use Rattle.am_types.specs.declared.OpId.{OpId};
+    ghost use Rattle.am_types.specs.Fine.{IsId};
+    ghost use Rattle.am_types.specs.Views.{id_of};
+    ghost use Rattle.am_fields.specs.Held.{IdsHeld, IdsFit, IdsSpelled};
+    ghost use Rattle.am_fields.specs.Rooms.{IsOpen, IsShort};
+
+    /// No ids.
+    pub fn new(alloc: Global) -> Self
+        ensures { (actors : List (List ℕ)) → IdsHeld actors [] result }
+    {
+        IdWriter {
+            places: NumberWriter::new(alloc),
+            counters: DeltaWriter::new(alloc),
+        }
+    }
+
+    /// Appends an id. The place of its actor is that among these actors.
+    pub fn push(&mut self, actors: &[ActorId], id: IdRef<'_>) -> Result<(), AllocError>
+        requires places { IsOpen self.old.places }
+        requires counters { IsOpen self.old.counters }
+        requires id { IsId (id_of id) }
+        ensures { OnOk result ((ids : List OpId) → IdsHeld actors.now ids self.old → IdsHeld actors.now (ids ++ id_of id.entry ∷ []) self.new) }
+    {
+        push_id(&mut self.places, &mut self.counters, actors, id)
+    }
+
+    /// Appends ids.
+    pub fn push_all(&mut self, actors: &[ActorId], ids: &[OpId]) -> Result<(), AllocError>
+        requires places { IfSome self.old.places (λ xs. length xs + length ids.now ≤ 2 ^ 32) }
+        requires counters { IfSome self.old.counters (λ xs. length xs + length ids.now ≤ 2 ^ 32) }
+        requires ids { All IsId ids.now }
+        ensures { OnOk result ((before : List OpId) → IdsHeld actors.now before self.old → IdsHeld actors.now (before ++ ids.now) self.new) }
+    {
+        push_ids(&mut self.places, &mut self.counters, actors, ids)
+    }
+
+    /// The column of places and that of counters, each in its one canonical spelling.
+    pub fn finish(self) -> Result<(Bytes, Bytes), AllocError>
+        requires { IsShort self.places }
+        ensures { IfOk result (λ text. (actors : List (List ℕ)) (ids : List OpId) → IdsHeld actors ids self → IdsFit ids → IdsSpelled actors ids text.0 text.1) }
+    {
+        let places = self.places.finish()?;
+        let counters = self.counters.finish()?;
+        Ok((places, counters))
+    }
+}
