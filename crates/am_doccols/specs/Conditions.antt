@@ -1,0 +1,58 @@
+-- What rows and change rows must meet to be written.
+--     IsIdFor actors id          the id is within its limits, and its actor is listed
+--     IsRowFor actors row        the ids in the row are within their limits, its value is good, and its actors are listed
+--     IsMetaFor actors meta      the numbers in the change row are within their limits, and its actor is listed
+--     IsPlace i                  it may be the place of a change row
+--     succ_count rows, dep_count metas     how many successors, or dependencies, there are in all
+--     HasRoom, HasMetaRoom       one more may be written behind those that were
+-- The bounds are limits of amstore's profile.
+use Rattle.std.specs.Prelude.{ℕ, ◌+◌, ◌<◌, ◌≤◌, ◌^◌, List, length, map}
+use Rattle.std.specs.List.{AllByRecursion}
+use Rattle.am_types.specs.declared.OpId.{OpId}
+use Rattle.am_types.specs.declared.Row.{Row}
+use Rattle.am_types.specs.declared.Meta.{Meta}
+use Rattle.am_types.specs.Fine.{IsId, IsObject, IsKey}
+use Rattle.am_types.specs.Values.{Good}
+use Rattle.am_fields.specs.Actors.{IsListed, IfListed}
+use Rattle.am_fields.specs.Extras.{extra_value}
+use Rattle.am_fields.specs.Layout.{object_actor, key_actor, flat}
+use Rattle.am_fields.specs.Limits.{IsTime}
+
+-- an id within its limits, with a listed actor
+pub record IsIdFor (actors : List (List ℕ)) (id : OpId) : Type 0 where
+  pub within : IsId id
+  pub listed : IsListed actors id.actor
+
+pub record IsRowFor (actors : List (List ℕ)) (row : Row) : Type 0 where
+  pub object : IsObject row.obj
+  pub object_listed : IfListed actors (object_actor row.obj)
+  pub key : IsKey row.key
+  pub key_listed : IfListed actors (key_actor row.key)
+  pub id : IsIdFor actors row.id
+  pub value : Good row.value
+  pub succs : AllByRecursion (IsIdFor actors) row.succs
+
+abbrev pub IsPlace : ℕ → Type 0
+IsPlace i = i < 2 ^ 20
+
+pub record IsMetaFor (actors : List (List ℕ)) (meta : Meta) : Type 0 where
+  pub actor : IsListed actors meta.actor
+  pub seq : meta.seq < 2 ^ 53
+  pub max : meta.max < 2 ^ 53
+  pub time : IsTime meta.time
+  pub deps : AllByRecursion IsPlace meta.deps
+  pub extra : Good (extra_value meta.extra)
+
+abbrev pub succ_count : List Row → ℕ
+succ_count rows = length (flat (map (λ r. r.succs) rows))
+
+abbrev pub dep_count : List Meta → ℕ
+dep_count metas = length (flat (map (λ m. m.deps) metas))
+
+pub record HasRoom (rows : List Row) (succs : List OpId) : Type 0 where
+  pub few : length rows < 2 ^ 22
+  pub few_succs : succ_count rows + length succs ≤ 2 ^ 22
+
+pub record HasMetaRoom (metas : List Meta) (deps : List ℕ) : Type 0 where
+  pub few : length metas < 2 ^ 20
+  pub few_deps : dep_count metas + length deps ≤ 2 ^ 22

@@ -1,0 +1,29 @@
+//! The columns of a document's operation rows and change rows (Automerge Binary Document Format, "Document Chunks"):
+//! cursors over them, which take no memory, and their canonical writing.
+#![tactic(auto)]
+
+mod fault;
+mod finished;
+mod laws;
+mod lent;
+mod meta;
+mod meta_columns;
+mod meta_finished;
+mod meta_writer;
+mod metas;
+mod row;
+mod row_writer;
+mod rows;
+#[cfg(test)]
+mod tests;
+
+pub use am_fields::{IdCursor as SuccCursor, IndexCursor};
+pub use fault::BadRows;
+pub use laws::{one_list_of_metas, one_list_of_rows};
+pub use lent::{RowFields, fields_of};
+pub use meta::MetaRef;
+pub use meta_writer::MetaWriter;
+pub use metas::MetaCursor;
+pub use row::RowRef;
+pub use row_writer::RowWriter;
+pub use rows::RowCursor;

@@ -1,0 +1,114 @@
+//! Writing rows to their columns.
+ghost use Rattle.std.specs.Prelude.{◌≡◌, ◌++◌, ◌∷◌, [], Some, None, IfOk, IfSome, IfNone, OnOk, OnErr, IsErr};
+ghost use Rattle.am_colmeta.specs.Metadata.{metadata, listing, body};
+ghost use Rattle.am_doccols.specs.Columns.{written_rows};
+ghost use Rattle.am_doccols.specs.Conditions.{IsRowFor, HasRoom};
+ghost use Rattle.am_doccols.specs.Lent.{row_with};
+
+use crate::finished::columns_in;
+use crate::lent::RowFields;
+use am_fields::{FieldWriter, Fields, IdWriter, NumberWriter, columns_of};
+use am_types::{ActorId, Bytes, List, OpId, Twin};
+use std::alloc::{AllocError, Global};
+use std::marker::Model;
+
+/// Writes rows to columns whose places name a list of actors. A contract sees the actors, and the rows that were pushed,
+/// or None once memory was wanted: it is wanted from then on.
+#[derive(Drop)]
+pub struct RowWriter {
+    actors: List<ActorId>,
+    fields: FieldWriter,
+    ids: IdWriter,
+    lengths: NumberWriter,
+    succs: IdWriter,
+    failed: bool,
+    alloc: Global,
+}
+
+impl Model for RowWriter {
+    ghost use Rattle.std.specs.Prelude.{List, ℕ, Option};
+    ghost use Rattle.am_types.specs.declared.Row.{Row};
+
+    ghost Value = { List (List ℕ) × Option (List Row) };
+
+    ghost use Rattle.am_doccols.specs.Writing.{rows_written, IsWritingRows};
+
+    ghost view = { λ w. (w.actors, rows_written w.failed w.actors w.fields w.ids w.lengths w.succs) };
+
+    ghost invariant = { λ w. IsWritingRows w.failed w.actors w.fields w.ids w.lengths w.succs };
+}
+
+// Copies actors.
+pub fn actors_in(alloc: Global, actors: &[ActorId]) -> Result<List<ActorId>, AllocError>
+    ensures { IfOk result (λ copied. copied ≡ actors.now) }
+{
+    let mut copied = List::new(alloc);
+    for actor in actors {
+        copied.push(actor.copy(alloc)?)?;
+    }
+    Ok(copied)
+}
+
+impl RowWriter {
+    /// No rows, and the actors that the places name.
+    pub fn new(alloc: Global, actors: &[ActorId]) -> Result<Self, AllocError>
+        ensures actors { IfOk result (λ w. w.0 ≡ actors.now) }
+        ensures rows { IfOk result (λ w. w.1 ≡ Some []) }
+    {
+        let actors = actors_in(alloc, actors)?;
+        Ok(RowWriter {
+            actors,
+            fields: FieldWriter::new(alloc),
+            ids: IdWriter::new(alloc),
+            lengths: NumberWriter::new(alloc),
+            succs: IdWriter::new(alloc),
+            failed: false,
+            alloc,
+        })
+    }
+
+    /// Appends the row with these fields and successors.
+    pub fn push(&mut self, row: RowFields<'_>, succs: &[OpId]) -> Result<(), AllocError>
+        requires row { IsRowFor self.old.0 (row_with row succs.now) }
+        requires room { IfSome self.old.1 (λ rows. HasRoom rows succs.now) }
+        ensures actors { self.new.0 ≡ self.old.0 }
+        ensures failed { IfNone self.old.1 ((self.new.1 ≡ None) × IsErr result) }
+        ensures ok { OnOk result (IfSome self.old.1 (λ rows. self.new.1 ≡ Some (rows ++ row_with row.entry succs.now ∷ []))) }
+        ensures err { OnErr result (self.new.1 ≡ None) }
+    {
+        if self.failed {
+            return Err(AllocError);
+        }
+        self.failed = true;
+        let actors = self.actors.as_slice();
+        let fields = Fields {
+            obj: row.obj,
+            key: row.key,
+            insert: row.insert,
+            action: row.action,
+            value: row.value,
+            expand: row.expand,
+            mark: row.mark,
+        };
+        self.fields.push(actors, fields)?;
+        self.ids.push(actors, row.id)?;
+        self.lengths.push(Some(succs.len() as u64))?;
+        self.succs.push_all(actors, succs)?;
+        self.failed = false;
+        Ok(())
+    }
+
+    /// The metadata and the body of the rows' columns, each in its one canonical spelling.
+    pub fn finish(self) -> Result<(Bytes, Bytes), AllocError>
+        ensures failed { IfNone self.1 (IsErr result) }
+        ensures metadata { IfOk result (λ text. IfSome self.1 (λ rows. text.0 ≡ metadata (listing (written_rows self.0 rows)))) }
+        ensures body { IfOk result (λ text. IfSome self.1 (λ rows. text.1 ≡ body (written_rows self.0 rows))) }
+    {
+        if self.failed {
+            return Err(AllocError);
+        }
+        let alloc = self.alloc;
+        let columns = columns_in(alloc, self.fields, self.ids, self.lengths, self.succs)?;
+        columns_of(alloc, &columns)
+    }
+}
