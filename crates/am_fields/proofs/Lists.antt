@@ -1,5 +1,5 @@
 -- Lists that are the same field by field, or part by part.
-use Rattle.std.proofs.Common.{◌≡◌, List, [], ◌∷◌, ◌++◌, length, map, refl, arith}
+use Rattle.std.proofs.Common.{◌≡◌, ℕ, zero, suc, add-one, ◌+◌, List, [], ◌∷◌, ◌++◌, length, map, drop, refl, sym, ap, ◌∙◌, arith}
 use Rattle.std.specs.List.{flat_map, AllByRecursion}
 
 pub same_map_pair : {X A B : Type 0} (f : X → A) (g : X → B) (xs ys : List X) → map f xs ≡ map f ys → map g xs ≡ map g ys → map {B = A × B} (λ x. (f x, g x)) xs ≡ map (λ x. (f x, g x)) ys
@@ -49,3 +49,13 @@ same_lengths f (x ∷ xs) (y ∷ ys) p = let more : length xs ≡ length ys = sa
 pub all-append : {A : Type 0} (P : A → Type 0) (xs ys : List A) → AllByRecursion P xs → AllByRecursion P ys → AllByRecursion P (xs ++ ys)
 all-append P [] ys a b = b
 all-append P (x ∷ xs) ys a b = (a.0, all-append P xs ys a.1 b)
+
+-- what is left behind the next item
+pub drop_next : {A : Type 0} (i : ℕ) (xs ys : List A) (x : A) → drop i xs ≡ x ∷ ys → ys ≡ drop (i + 1) xs
+drop_next i xs ys x e = sym (ap (λ k. drop k xs) (add-one i) ∙ further i xs ys x e)
+  where
+    further : {A : Type 0} (i : ℕ) (xs ys : List A) (x : A) → drop i xs ≡ x ∷ ys → drop (suc i) xs ≡ ys
+    further zero [] ys x e = absurd (cc)
+    further zero (z ∷ xs) ys x e = cc
+    further (suc i) [] ys x e = absurd (cc)
+    further (suc i) (z ∷ xs) ys x e = further i xs ys x e
