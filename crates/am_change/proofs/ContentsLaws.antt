@@ -1,6 +1,6 @@
 -- The contents of a fine change: their front, and what tells the change.
-use Rattle.std.proofs.Common.{◌≡◌, ℕ, zero, suc, ◌+◌, ◌*◌, ◌<◌, ◌≤◌, ◌^◌, List, [], ◌∷◌, ◌++◌, length, refl, sym, ap, ◌∙◌, subst, arith, rules, append_assoc, inl, inr, ◌⊎◌}
-use Rattle.std.specs.Prelude.{ℤ, pos, neg_ℤ, ◌<ℤ◌, FitsSigned, Result, Ok, Err, IsBitSet, Contains}
+use Rattle.std.proofs.Common.{◌≡◌, ℕ, ◌<◌, ◌≤◌, ◌^◌, List, [], ◌∷◌, ◌++◌, length, refl, sym, ap, ◌∙◌, subst, arith, rules, append_assoc, inl, inr}
+use Rattle.std.specs.Prelude.{ℤ, pos, neg_ℤ, ◌<ℤ◌, FitsSigned, Ok, IsBitSet, Contains}
 use Rattle.std.specs.Int.{w64}
 use Rattle.std.specs.List.{flat_map, AllByRecursion}
 use Rattle.std.proofs.lemmas.Int.{ints}
@@ -13,16 +13,15 @@ use Rattle.am_types.specs.declared.Op.{Op}
 use Rattle.am_types.specs.declared.Change.{Change}
 use Rattle.am_types.specs.Bytes.{IsHash}
 use Rattle.am_types.specs.Fine.{Fine}
-use Rattle.am_colmeta.specs.declared.ColumnFault.{ColumnFault}
-use Rattle.am_colmeta.specs.Metadata.{metadata, listing, body, total, not_empty, Ascend, IsPair, AreListed}
+use Rattle.am_colmeta.specs.Metadata.{metadata, listing, body, total, not_empty, IsPair, AreListed}
 use Rattle.am_colmeta.specs.Actors.{prefixed, actors_bytes, IsPrefixed, AreActors}
-use Rattle.am_colmeta.specs.Judgement.{HasDeflate, AreCompressed, AreKnown, AreCut, Judges}
+use Rattle.am_colmeta.specs.Judgement.{AreCompressed, Judges}
 use Rattle.am_colmeta.specs.Reading.{cut}
 use Rattle.am_colmeta.proofs.Collecting.{Ascend-not_empty}
 use Rattle.am_colmeta.proofs.Cutting.{cut-whole, total-listing}
 use Rattle.am_fields.specs.Columns.{spellings}
 use Rattle.am_fields.proofs.Lists.{same_parts}
-use Rattle.am_opcols.specs.Columns.{op_columns, SpellsOps}
+use Rattle.am_opcols.specs.Columns.{op_columns, op_specifications, SpellsOps}
 use Rattle.am_opcols.specs.Others.{others}
 use Rattle.am_opcols.specs.Writing.{written_columns}
 use Rattle.am_opcols.proofs.OneReading.{ops-same}
@@ -102,15 +101,12 @@ pairs_short ((s, (b ∷ bytes)) ∷ cs) all h =
     let more = pairs_short cs all.1 (omega arith) in
     (((all.0, omega arith), more.0), let count = more.1 in omega arith)
 
-abbrev pub known : List ℕ
-known = 1 ∷ 2 ∷ 17 ∷ 19 ∷ 21 ∷ 52 ∷ 66 ∷ 86 ∷ 87 ∷ 112 ∷ 113 ∷ 115 ∷ 148 ∷ 165 ∷ []
-
 plain : (actors : List (List ℕ)) (ops : List Op) → AllByRecursion (λ c. IsBitSet c.0 3 → ⊥) (spellings actors (op_columns ops))
 plain actors ops =
     let no : (n : ℕ) → n ≡ 0 → (n ≡ 0 → ⊥) → ⊥ = λ n e f. f e in
     (no 0 refl, (no 0 refl, (no 0 refl, (no 0 refl, (no 0 refl, (no 0 refl, (no 0 refl, (no 0 refl, (no 0 refl, (no 0 refl, (no 0 refl, (no 0 refl, (no 0 refl, (no 0 refl, tt))))))))))))))
 
-are_known : (actors : List (List ℕ)) (ops : List Op) → AllByRecursion (λ c. Contains known c.0) (spellings actors (op_columns ops))
+are_known : (actors : List (List ℕ)) (ops : List Op) → AllByRecursion (λ c. Contains op_specifications c.0) (spellings actors (op_columns ops))
 are_known actors ops = (
   (0, omega arith, refl),
   (
@@ -140,11 +136,11 @@ low actors ops = (omega arith, (omega arith, (omega arith, (omega arith, (omega 
 pub not_compressed : (author : List ℕ) (ops : List Op) → AreCompressed (listing (written_columns author ops)) → ⊥
 not_compressed author ops = none_compressed (listing (written_columns author ops)) (each_column (λ s. IsBitSet s 3 → ⊥) (spellings (author ∷ others author ops) (op_columns ops)) (plain (author ∷ others author ops) ops))
 
-pub columns_judged : (author : List ℕ) (ops : List Op) → Judges (listing (written_columns author ops)) (body (written_columns author ops)) known (Ok (written_columns author ops))
+pub columns_judged : (author : List ℕ) (ops : List Op) → Judges (listing (written_columns author ops)) (body (written_columns author ops)) op_specifications (Ok (written_columns author ops))
 columns_judged author ops =
     let actors = author ∷ others author ops in
     let all = spellings actors (op_columns ops) in
-    (not_compressed author ops, Ascend-not_empty all (ascending actors ops), each_column (λ s. Contains known s) all (are_known actors ops), record { listed_are = refl; bytes_are = refl })
+    (not_compressed author ops, Ascend-not_empty all (ascending actors ops), each_column (λ s. Contains op_specifications s) all (are_known actors ops), record { listed_are = refl; bytes_are = refl })
 
 pub columns_listed : (author : List ℕ) (ops : List Op) → length (body (written_columns author ops)) < 2 ^ 64 → AreListed (listing (written_columns author ops))
 columns_listed author ops h =

@@ -1,10 +1,10 @@
 -- What stands first in bytes, and what is behind it.
 use Rattle.std.proofs.Common.{◌≡◌, ℕ, zero, suc, ◌+◌, ◌-◌, ◌*◌, ◌<◌, ◌≤◌, ◌^◌, List, [], ◌∷◌, ◌++◌, length, take, drop, refl, sym, ap, ◌∙◌, subst, arith, append_assoc}
-use Rattle.std.specs.Prelude.{Result, Ok, ℤ, FitsSigned}
+use Rattle.std.specs.Prelude.{Result, Ok, Some, ℤ, FitsSigned, slice_get}
 use Rattle.std.specs.Int.{w64}
 use Rattle.std.specs.Result.{result_unwrap_or}
 use Rattle.std.specs.List.{flat_map, AllByRecursion}
-use Rattle.std.proofs.lemmas.List.{take-append-drop, length-append, length-drop, length-take-le, take_at, drop_at, nil_from_length}
+use Rattle.std.proofs.lemmas.List.{take-append-drop, length-append, length-drop, length-take-le, take_at, drop_at, drop-drop, nil_from_length}
 use Rattle.std.proofs.Math.Seq.{drop-append_seam}
 use Rattle.am_leb.specs.Leb.{uleb, leb, signed_value, IsSpelling}
 use Rattle.am_leb.proofs.SignedLaws.{leb_is}
@@ -48,6 +48,14 @@ length-hashes_in (suc n) bytes = ap suc (length-hashes_in n (drop 32 bytes))
 pub hashes_in-next : (n : ℕ) (bytes : List ℕ) → 0 < n → hashes_in n bytes ≡ hash_with (take 32 bytes) ∷ hashes_in (n - 1) (drop 32 bytes)
 hashes_in-next zero bytes h = absurd (omega arith)
 hashes_in-next (suc n) bytes h = ap (λ k. hash_with (take 32 bytes) ∷ hashes_in k (drop 32 bytes)) (let e : n ≡ suc n - 1 = omega arith in e)
+
+-- the hash at a place
+pub hash_there : (n i : ℕ) (bytes : List ℕ) → i < n → slice_get (hashes_in n bytes) i ≡ Some (hash_with (take 32 (drop (32 * i) bytes)))
+hash_there zero i bytes h = absurd (omega arith)
+hash_there (suc n) zero bytes h = refl
+hash_there (suc n) (suc i) bytes h =
+    hash_there n i (drop 32 bytes) (omega arith)
+    ∙ ap (λ d. Some (hash_with (take 32 d))) (drop-drop (32 * i) 32 bytes ∙ ap (λ k. drop k bytes) (let e : 32 + 32 * i ≡ 32 * suc i = omega arith in e))
 
 -- one more hash is read
 pub hashes_step : (hashes whole next : List Hash) (bytes first more : List ℕ) (n : ℕ) → 0 < n → first ≡ take 32 bytes → more ≡ drop 32 bytes → next ≡ hashes ++ hash_with first ∷ [] → hashes ++ hashes_in n bytes ≡ whole → next ++ hashes_in (n - 1) more ≡ whole

@@ -5,7 +5,6 @@ use Rattle.std.proofs.lemmas.Slice.Eq.{bytes_eq-Decides}
 use Rattle.std.specs.List.{AllByRecursion}
 use Rattle.std.proofs.lemmas.List.{length-append, take_at, drop_at}
 use Rattle.am_types.specs.declared.Op.{Op}
-use Rattle.am_types.specs.declared.OpId.{OpId}
 use Rattle.am_types.specs.declared.Change.{Change}
 use Rattle.am_types.specs.Fine.{Fine}
 use Rattle.am_colmeta.specs.declared.ColumnFault.{ColumnFault}
@@ -16,8 +15,7 @@ use Rattle.am_colmeta.proofs.Cutting.{total-listing}
 use Rattle.am_colmeta.proofs.Judging as judging
 use Rattle.am_fields.specs.Limits.{IsWithin, IsObjectWithin, IsKeyWithin}
 use Rattle.am_fields.specs.Layout.{flat}
-use Rattle.am_opcols.specs.Columns.{AreOpsWithin, SpellsOps}
-use Rattle.am_opcols.specs.Others.{others}
+use Rattle.am_opcols.specs.Columns.{op_specifications, AreOpsWithin, SpellsOps}
 use Rattle.am_opcols.specs.Writing.{written_columns}
 use Rattle.am_opcols.proofs.OneReading.{ops-same}
 use Rattle.am_change.specs.declared.fault.ChangeFault.{ChangeFault}
@@ -27,7 +25,7 @@ use Rattle.am_change.specs.Fronts.{Front, front_bytes, front, IsFront, IsCompres
 use Rattle.am_change.specs.Building.{change_with, IsOpWithin}
 use Rattle.am_change.specs.Judgement.{Judges}
 use Rattle.am_change.proofs.FrontLaws.{front-splits}
-use Rattle.am_change.proofs.ContentsLaws.{known, contents-front, not_compressed, columns_judged, deps_sized, is_front, own_ops, contents-same}
+use Rattle.am_change.proofs.ContentsLaws.{contents-front, not_compressed, columns_judged, deps_sized, is_front, own_ops, contents-same}
 
 -- where a front was read that lists no compressed column, the bytes don't count as compressed
 pub plain_front : (bytes : List ℕ) (f : Front) (rest : List ℕ) → IsFront f → bytes ≡ front_bytes f ++ rest → (AreCompressed f.listed → ⊥) → IsCompressed bytes → ⊥
@@ -74,10 +72,10 @@ parts_behind f rest c n e r m =
     let size : length columns_are ≡ n = sym (m ∙ ap (λ g. total g.listed) e ∙ total-listing (written_columns c.actor c.ops)) in
     (ap (take n) r ∙ take_at columns_are c.extra n size, ap (drop n) r ∙ drop_at columns_are c.extra n size)
 
-pub judged_as : (f : Front) (bytes : List ℕ) (c : Change) (r : Result (List (ℕ × List ℕ)) ColumnFault) → f ≡ front c → bytes ≡ body (written_columns c.actor c.ops) → columns.Judges f.listed bytes known r → r ≡ Ok (written_columns c.actor c.ops)
+pub judged_as : (f : Front) (bytes : List ℕ) (c : Change) (r : Result (List (ℕ × List ℕ)) ColumnFault) → f ≡ front c → bytes ≡ body (written_columns c.actor c.ops) → columns.Judges f.listed bytes op_specifications r → r ≡ Ok (written_columns c.actor c.ops)
 judged_as f bytes c r e b j =
     let cs = written_columns c.actor c.ops in
-    judging.one_judgement (listing cs) (body cs) known r (Ok cs) (subst (λ (x : List ℕ). columns.Judges (listing cs) x known r) b (subst (λ (g : Front). columns.Judges g.listed bytes known r) e j)) (columns_judged c.actor c.ops)
+    judging.one_judgement (listing cs) (body cs) op_specifications r (Ok cs) (subst (λ (x : List ℕ). columns.Judges (listing cs) x op_specifications r) b (subst (λ (g : Front). columns.Judges g.listed bytes op_specifications r) e j)) (columns_judged c.actor c.ops)
 
 -- the operations of the change, as columns that are those of the change spell them
 pub ops_as : (f : Front) (cs : List (ℕ × List ℕ)) (c : Change) → Fine c → length (contents c) < 2 ^ 64 → f ≡ front c → cs ≡ written_columns c.actor c.ops → SpellsOps (f.actor ∷ f.others) cs c.ops

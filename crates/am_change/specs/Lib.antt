@@ -1,4 +1,5 @@
 pub mod Contents
 pub mod Fronts
+pub mod Hashes
 pub mod Judgement
 pub mod Building

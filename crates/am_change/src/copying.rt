@@ -45,7 +45,7 @@ pub fn actor_in(alloc: Global, bytes: &[u8]) -> Result<ActorId, AllocError>
 }
 
 // The hash of these bytes.
-fn hash_in(bytes: &[u8]) -> Hash
+pub fn hash_in(bytes: &[u8]) -> Hash
     requires { length bytes.now ≡ 32 }
     ensures { result ≡ hash_with bytes.now }
 {

@@ -1,4 +1,4 @@
-use Rattle.std.proofs.Common.{◌≡◌, ◌≤◌, ◌*◌, ◌++◌, ℕ, List, length, arith, append_assoc, ◌∙◌}
+use Rattle.std.proofs.Common.{◌≡◌, ◌≤◌, ◌*◌, ◌++◌, length, arith, append_assoc, ◌∙◌}
 use Rattle.std.specs.List.{flat_map}
 use Rattle.am_leb.specs.Leb.{uleb}
 use Rattle.am_change.proofs.FrontLaws.{hashes_is, hashes_room, hashes_only}

@@ -1,4 +1,4 @@
-use Rattle.std.proofs.Common.{◌≡◌, ℕ, Ok, take, length, ◌++◌}
+use Rattle.std.proofs.Common.{take}
 use Rattle.am_leb.specs.Leb.{uleb}
 use Rattle.am_change.proofs.FrontLaws.{front_is, behind_is, fields}
 use Rattle.am_change.proofs.numbers.number_at.Goals as goal

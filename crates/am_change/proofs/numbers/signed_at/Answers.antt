@@ -1,5 +1,5 @@
 use mir.Val.{to_z, of_z}
-use Rattle.std.proofs.Common.{◌≡◌, ℕ, Ok, take, length, ◌++◌, List, sym, subst, ◌∙◌, FitsSigned, w64, ℤ}
+use Rattle.std.proofs.Common.{◌≡◌, take, ◌++◌, sym, subst, ◌∙◌, FitsSigned, w64, ℤ}
 use Rattle.std.proofs.lemmas.Int.{to_z-of_z}
 use Rattle.am_leb.specs.Leb.{leb}
 use Rattle.am_change.proofs.FrontLaws.{front_is, behind_is, fields}

@@ -1,0 +1,116 @@
+//! Whether a change that is lent from its contents is fine.
+ghost use Rattle.std.specs.Prelude.{◌≡◌, ◌↔◌, ◌+◌, ◌*◌, ◌≤◌, ◌<◌, ◌<ℤ◌, ◌^◌, IsTrue, IfSome, IfNone, length, neg_ℤ, pos};
+ghost use Rattle.std.specs.List.{AllByRecursion};
+ghost use Rattle.std.specs.declared.cmp.Ordering.TheVariants.{Less};
+ghost use Rattle.am_types.specs.Order.{bytes_cmp, hash_cmp};
+ghost use Rattle.am_types.specs.Fine.{Fine, FineOp, pred_count};
+ghost use Rattle.am_opcols.specs.Chains.{Chain};
+ghost use Rattle.am_change.specs.Building.{hashes_in, front_of, change_with};
+
+use crate::fine_op::is_fine_op;
+use crate::front::FrontRef;
+use am_opcols::OpCursor;
+use am_types::{slice_known, str_known};
+use std::cmp::Ordering;
+
+fn is_below(a: &[u8], b: &[u8]) -> bool
+    ensures { IsTrue result ↔ (bytes_cmp a.now b.now ≡ Less) }
+{
+    a.cmp(b) == Ordering::Less
+}
+
+// Whether each of the hashes that stand one after another is below the next.
+fn hashes_ascend(bytes: &[u8], count: u64) -> bool
+    requires { length bytes.now ≡ 32 * count }
+    ensures { IsTrue result ↔ Chain hash_cmp (hashes_in count bytes.now) }
+{
+    if count == 0 {
+        return true;
+    }
+    let (first, more) = bytes.split_at(32);
+    let mut before = first;
+    let mut rest = more;
+    let mut left = count - 1;
+    while left > 0 {
+        let (hash, more) = rest.split_at(32);
+        if !is_below(before, hash) {
+            return false;
+        }
+        before = hash;
+        rest = more;
+        left -= 1;
+    }
+    true
+}
+
+// How many operations there are, if each is fine.
+fn fine_count(ops: &OpCursor<'_>) -> Option<u64>
+    requires { length ops.now ≤ 2 ^ 22 }
+    ensures some { IfSome result (λ n. (n ≡ length ops.now) × AllByRecursion FineOp ops.now) }
+    ensures none { IfNone result (AllByRecursion FineOp ops.now → ⊥) }
+{
+    let mut count = 0;
+    let mut rest = ops.again();
+    while let Some(op) = rest.next() {
+        if !is_fine_op(&op) {
+            return None;
+        }
+        count += 1;
+    }
+    Some(count)
+}
+
+// Whether the numbers of a change with so many operations are within their limits.
+fn are_good(front: &FrontRef<'_>, count: u64) -> bool
+    requires { count ≤ 2 ^ 22 }
+    ensures { IsTrue result ↔ ((1 ≤ front.now.seq) × (front.now.seq < 2 ^ 53) × (1 ≤ front.now.start) × (front.now.start + count ≤ 2 ^ 53)
+        × (neg_ℤ (pos (2 ^ 62)) <ℤ front.now.time) × (front.now.time <ℤ pos (2 ^ 62))) }
+{
+    front.seq >= 1
+        && front.seq < 1 << 53
+        && front.start >= 1
+        && front.start <= (1 << 53) - count
+        && front.time > -(1 << 62)
+        && front.time < 1 << 62
+}
+
+fn are_few(count: u64) -> bool
+    ensures { IsTrue result ↔ (count ≤ 2 ^ 22) }
+{
+    count <= 1 << 22
+}
+
+fn is_short(bytes: &[u8]) -> bool
+    ensures { IsTrue result ↔ (length bytes.now < 2 ^ 60) }
+{
+    bytes.len() < 1 << 60
+}
+
+// Whether the change of these parts is fine.
+pub fn are_fine(front: &FrontRef<'_>, message: &str, ops: &OpCursor<'_>, extra: &[u8]) -> bool
+    requires hashes { length front.now.hashes.now ≡ 32 * front.now.count }
+    requires message { message.now ≡ front.now.message.now }
+    requires some { 1 ≤ length front.now.actor.now }
+    requires short { length front.now.actor.now ≤ 1024 }
+    requires few { length ops.now ≤ 2 ^ 22 }
+    requires few_preds { pred_count ops.now ≤ 2 ^ 22 }
+    ensures { IsTrue result ↔ Fine (change_with (front_of front.now) ops.now extra.now) }
+{
+    slice_known(front.hashes);
+    slice_known(front.actor);
+    slice_known(extra);
+    str_known(message);
+    if !are_few(front.count) {
+        return false;
+    }
+    if !is_short(extra) {
+        return false;
+    }
+    if !hashes_ascend(front.hashes, front.count) {
+        return false;
+    }
+    match fine_count(ops) {
+        None => false,
+        Some(count) => are_good(front, count),
+    }
+}
