@@ -9,6 +9,8 @@ mod document;
 mod hash;
 mod ids;
 mod known;
+#[cfg(test)]
+mod lent_tests;
 mod list;
 mod owned;
 mod refs;
