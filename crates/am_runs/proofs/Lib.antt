@@ -22,3 +22,5 @@ pub mod Counted
 pub mod TextSpellings
 pub mod LiteralTexts
 pub mod Skimmed
+pub mod Alike
+pub mod Telling

@@ -5,10 +5,10 @@ ghost use Rattle.am_runs.specs.Items.{text_of};
 ghost use Rattle.am_runs.specs.Runs.{JoinsRuns};
 ghost use Rattle.am_runs.specs.Walking.{entries, HasEntries};
 ghost use Rattle.am_runs.specs.Counters.{in_literal};
+ghost use Rattle.am_runs.specs.Positions.{place_of};
 
 use crate::fault::BadRun;
 use crate::item::{Item, TextItem};
-use crate::likeness::alike;
 use crate::literal::text_behind;
 use crate::place::{Kind, Position, opened, stepped};
 use crate::run::run_at;
@@ -29,11 +29,12 @@ impl<'a, K: Item> Model for RunCursor<'a, K> {
 
     ghost Value = { List (Option (List ℕ)) };
 
+    ghost use Rattle.am_runs.specs.Positions.{place_of};
     ghost use Rattle.am_runs.specs.Walking.{entries, HasEntries};
 
-    ghost view = { λ a. entries K.end_of a.left (record { kind = a.at.kind; count = a.at.count; item = a.at.item.now; rest = a.at.rest.now }) };
+    ghost view = { λ a. entries K.end_of a.left (place_of a.at) };
 
-    ghost invariant = { λ a. HasEntries K.end_of a.left (record { kind = a.at.kind; count = a.at.count; item = a.at.item.now; rest = a.at.rest.now }) };
+    ghost invariant = { λ a. HasEntries K.end_of a.left (place_of a.at) };
 }
 
 impl<'a, K: Item> RunCursor<'a, K> {
@@ -100,9 +101,9 @@ impl<'a, K: Item> RunCursor<'a, K> {
         if self.left == 0 {
             return None;
         }
-        match alike::<K>(self.at) {
+        match taken::<K>(self.at, self.left) {
             None => None,
-            Some((entry, k)) => Some((entry, k.min(self.left))),
+            Some((entry, k, _)) => Some((entry, k)),
         }
     }
 
@@ -125,8 +126,8 @@ impl<'a, K: Item> RunCursor<'a, K> {
 
     // The place, and how many entries are left from it.
     pub(crate) fn place(&self) -> (Position<'a>, u64)
-        ensures holds { HasEntries K.end_of result.1 (record { kind = result.0.kind; count = result.0.count; item = result.0.item.now; rest = result.0.rest.now }) }
-        ensures list { self.now ≡ entries K.end_of result.1 (record { kind = result.0.kind; count = result.0.count; item = result.0.item.now; rest = result.0.rest.now }) }
+        ensures holds { HasEntries K.end_of result.1 (place_of result.0) }
+        ensures list { self.now ≡ entries K.end_of result.1 (place_of result.0) }
     {
         (self.at, self.left)
     }
@@ -159,10 +160,20 @@ impl<'a, K: Item> RunCursor<'a, K> {
         ensures end { IfNone result ((self.old ≡ []) × (self.new ≡ [])) }
         ensures next { IfSome result (λ r. (1 ≤ r.1) × (self.old ≡ replicate r.1 (option_copied r.0) ++ self.new)) }
     {
+        self.next_alike_within(u64::MAX)
+    }
+
+    /// The next entry with those like it that its run still gives, at most so many.
+    #[inline(always)]
+    pub fn next_alike_within(&mut self, most: u64) -> Option<(Option<&'a [u8]>, u64)>
+        requires some { 0 < most }
+        ensures end { IfNone result ((self.old ≡ []) × (self.new ≡ [])) }
+        ensures next { IfSome result (λ r. (1 ≤ r.1) × (r.1 ≤ most) × (self.old ≡ replicate r.1 (option_copied r.0) ++ self.new)) }
+    {
         if self.left == 0 {
             return None;
         }
-        match taken::<K>(self.at, self.left) {
+        match taken::<K>(self.at, most.min(self.left)) {
             None => None,
             Some((entry, k, at)) => {
                 self.at = at;

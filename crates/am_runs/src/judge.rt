@@ -4,6 +4,7 @@ ghost use Rattle.std.specs.Option.{option_copied, option_map};
 ghost use Rattle.std.specs.Str.{bytes_eq};
 ghost use Rattle.am_runs.specs.Canonical.{Canon};
 ghost use Rattle.am_runs.specs.Judging.{Sight, unlike, unlike_items, literal_sight, tight_sight, MayComeAfter, IsNext, item_seen};
+ghost use Rattle.am_runs.specs.Positions.{sight_in};
 
 use crate::item::Item;
 use crate::pending::is_same;
@@ -68,7 +69,7 @@ fn last_unlike<'a, K: Item>(
 
 fn literal_seen<'a, K: Item>(count: u64, bytes: &'a [u8]) -> Option<Seen<'a>>
     requires { 0 < count }
-    ensures { option_map (λ s. record { count = s.count; first = option_copied s.first; last = option_copied s.last; literal = s.literal; rest = s.rest.now }) result
+    ensures { option_map sight_in result
         ≡ literal_sight K.end_of count bytes.now (K.end_of bytes.now) }
 {
     match K::end(bytes) {
@@ -90,7 +91,7 @@ fn literal_seen<'a, K: Item>(count: u64, bytes: &'a [u8]) -> Option<Seen<'a>>
 }
 
 fn repeat_seen<'a>(count: u64, item: Option<&'a [u8]>, rest: &'a [u8]) -> Seen<'a>
-    ensures { ◌≡◌ {A = Sight} (record { count = result.count; first = option_copied result.first; last = option_copied result.last; literal = result.literal; rest = result.rest.now })
+    ensures { ◌≡◌ {A = Sight} (sight_in result)
         (record { count = count; first = option_copied item.entry; last = option_copied item.entry; literal = false; rest = rest.now }) }
 {
     Seen {
@@ -104,7 +105,7 @@ fn repeat_seen<'a>(count: u64, item: Option<&'a [u8]>, rest: &'a [u8]) -> Seen<'
 
 // The run that begins the bytes, if it is tight.
 fn tight_run<'a, K: Item>(bytes: &'a [u8]) -> Option<Seen<'a>>
-    ensures { option_map (λ s. record { count = s.count; first = option_copied s.first; last = option_copied s.last; literal = s.literal; rest = s.rest.now }) result
+    ensures { option_map sight_in result
         ≡ tight_sight K.end_of bytes.now }
 {
     match opened::<K>(bytes) {
@@ -154,8 +155,8 @@ fn may_follow(last: Option<&[u8]>, literal: bool, run: &Seen<'_>) -> bool
 }
 
 fn may_come_after(before: Option<Seen<'_>>, run: &Seen<'_>) -> bool
-    ensures { IsTrue result ↔ MayComeAfter (option_map (λ s. record { count = s.count; first = option_copied s.first; last = option_copied s.last; literal = s.literal; rest = s.rest.now }) before.entry)
-        (record { count = run.now.count; first = option_copied run.now.first; last = option_copied run.now.last; literal = run.now.literal; rest = run.now.rest.now }) }
+    ensures { IsTrue result ↔ MayComeAfter (option_map sight_in before.entry)
+        (sight_in run.now) }
 {
     match before {
         None => true,
@@ -165,9 +166,9 @@ fn may_come_after(before: Option<Seen<'_>>, run: &Seen<'_>) -> bool
 
 // The run that begins the bytes, if it is tight, may follow, and has at most so many entries.
 fn next_run<'a, K: Item>(before: Option<Seen<'a>>, bytes: &'a [u8], most: u64) -> Option<Seen<'a>>
-    ensures found { IfSome result (λ s. IsNext K.end_of (option_map (λ s. record { count = s.count; first = option_copied s.first; last = option_copied s.last; literal = s.literal; rest = s.rest.now }) before.entry) bytes.now most
-        (record { count = s.count; first = option_copied s.first; last = option_copied s.last; literal = s.literal; rest = s.rest.now })) }
-    ensures none { IfNone result ((s : Sight) → IsNext K.end_of (option_map (λ s. record { count = s.count; first = option_copied s.first; last = option_copied s.last; literal = s.literal; rest = s.rest.now }) before.entry) bytes.now most s → ⊥) }
+    ensures found { IfSome result (λ s. IsNext K.end_of (option_map sight_in before.entry) bytes.now most
+        (sight_in s)) }
+    ensures none { IfNone result ((s : Sight) → IsNext K.end_of (option_map sight_in before.entry) bytes.now most s → ⊥) }
 {
     match tight_run::<K>(bytes) {
         None => None,

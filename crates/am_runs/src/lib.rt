@@ -7,7 +7,6 @@ mod fault;
 mod item;
 mod judge;
 mod laws;
-mod likeness;
 mod literal;
 mod numbers;
 mod pending;

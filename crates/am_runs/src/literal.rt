@@ -4,6 +4,7 @@ ghost use Rattle.std.specs.Option.{option_map};
 ghost use Rattle.std.specs.Str.{is_utf8};
 ghost use Rattle.am_runs.specs.Items.{text_end, text_of};
 ghost use Rattle.am_runs.specs.Walking.{step};
+ghost use Rattle.am_runs.specs.Positions.{place_of};
 
 use crate::place::{Kind, Position};
 use am_leb::read_u;
@@ -24,8 +25,8 @@ fn text_over<'a>(bytes: &'a [u8]) -> Option<&'a str>
 pub fn text_behind<'a>(at: &mut Position<'a>) -> Option<(&'a str, &'a [u8])>
     requires within { 0 < at.old.count }
     requires literal { at.old.kind ≡ Kind.Literal }
-    ensures step { option_map (λ r. (Some r.1.now, record { kind = at.new.kind; count = at.new.count; item = at.new.item.now; rest = at.new.rest.now })) result
-        ≡ step text_end (record { kind = at.old.kind; count = at.old.count; item = at.old.item.now; rest = at.old.rest.now }) }
+    ensures step { option_map (λ r. (Some r.1.now, place_of at.new)) result
+        ≡ step text_end (place_of at.old) }
     ensures value { IfSome result (λ r. r.0.now ≡ text_of r.1.now) }
 {
     let rest = at.rest;

@@ -5,6 +5,7 @@ ghost use Rattle.am_leb.specs.Leb.{unsigned_value, signed_value};
 ghost use Rattle.am_leb.specs.Reading.{low_value};
 ghost use Rattle.am_runs.specs.Items.{unsigned_end, signed_end};
 ghost use Rattle.am_runs.specs.Walking.{open_run, open_repeat};
+ghost use Rattle.am_runs.specs.Positions.{place_of};
 
 use crate::place::{Kind, Position, open_null_run};
 use am_leb::{read_i, read_u};
@@ -50,7 +51,7 @@ pub fn signed_first(bytes: &[u8]) -> Option<(i64, usize)>
 
 #[inline(always)]
 fn unsigned_repeat<'a>(count: u64, bytes: &'a [u8]) -> Option<(Position<'a>, u64)>
-    ensures place { option_map (λ r. record { kind = r.0.kind; count = r.0.count; item = r.0.item.now; rest = r.0.rest.now }) result
+    ensures place { option_map (λ r. place_of r.0) result
         ≡ open_repeat count bytes.now (unsigned_end bytes.now) }
     ensures value { IfSome result (λ r. r.1 ≡ unsigned_value r.0.item.now) }
 {
@@ -70,7 +71,7 @@ fn unsigned_repeat<'a>(count: u64, bytes: &'a [u8]) -> Option<(Position<'a>, u64
 
 #[inline(always)]
 fn signed_repeat<'a>(count: u64, bytes: &'a [u8]) -> Option<(Position<'a>, i64)>
-    ensures place { option_map (λ r. record { kind = r.0.kind; count = r.0.count; item = r.0.item.now; rest = r.0.rest.now }) result
+    ensures place { option_map (λ r. place_of r.0) result
         ≡ open_repeat count bytes.now (signed_end bytes.now) }
     ensures value { IfSome result (λ r. r.1 ≡ signed_value r.0.item.now) }
 {
@@ -91,7 +92,7 @@ fn signed_repeat<'a>(count: u64, bytes: &'a [u8]) -> Option<(Position<'a>, i64)>
 /// The run that begins the bytes, and what its item spells where it is a repeat.
 #[inline(always)]
 pub fn unsigned_run<'a>(bytes: &'a [u8]) -> Option<(Position<'a>, u64)>
-    ensures place { option_map (λ r. record { kind = r.0.kind; count = r.0.count; item = r.0.item.now; rest = r.0.rest.now }) result
+    ensures place { option_map (λ r. place_of r.0) result
         ≡ open_run unsigned_end bytes.now }
     ensures value { IfSome result (λ r. r.0.kind ≡ Kind.Repeat → r.1 ≡ unsigned_value r.0.item.now) }
 {
@@ -124,7 +125,7 @@ pub fn unsigned_run<'a>(bytes: &'a [u8]) -> Option<(Position<'a>, u64)>
 /// The run that begins the bytes, and what its item spells where it is a repeat.
 #[inline(always)]
 pub fn signed_run<'a>(bytes: &'a [u8]) -> Option<(Position<'a>, i64)>
-    ensures place { option_map (λ r. record { kind = r.0.kind; count = r.0.count; item = r.0.item.now; rest = r.0.rest.now }) result
+    ensures place { option_map (λ r. place_of r.0) result
         ≡ open_run signed_end bytes.now }
     ensures value { IfSome result (λ r. r.0.kind ≡ Kind.Repeat → r.1 ≡ signed_value r.0.item.now) }
 {

@@ -5,7 +5,7 @@ ghost use Rattle.am_leb.specs.Leb.{leb};
 ghost use Rattle.am_leb.specs.Reading.{from_magnitude};
 ghost use Rattle.am_runs.specs.Items.{IsItem};
 ghost use Rattle.am_runs.specs.Canonical.{Canon};
-ghost use Rattle.am_runs.specs.Pending.{pending_bytes, Holds};
+ghost use Rattle.am_runs.specs.Pending.{pending_bytes, Holds, IsAlike};
 
 use crate::item::Item;
 use am_leb::{push_i, push_u};
@@ -184,6 +184,22 @@ pub fn put<K: Item>(
     match entry {
         None => put_null::<K>(done, p),
         Some(item) => put_item::<K>(done, p, item),
+    }
+}
+
+/// Whether the pending run has no entries but this one, and may have more of it.
+pub fn is_alike(p: &Pending, entry: Option<&[u8]>) -> bool
+    ensures { IsTrue result → IsAlike p.now.kind p.now.last.items (option_copied entry.entry) }
+{
+    match entry {
+        None => match p.kind {
+            PendingKind::Nulls => true,
+            _ => false,
+        },
+        Some(item) => match p.kind {
+            PendingKind::Repeat => is_same(&p.last, item),
+            _ => false,
+        },
     }
 }
 

@@ -3,6 +3,7 @@ ghost use Rattle.std.specs.Prelude.{◌≡◌, ◌-◌, ◌<◌};
 ghost use Rattle.std.specs.Option.{option_map, option_copied};
 ghost use Rattle.am_leb.specs.Reading.{first_unsigned};
 ghost use Rattle.am_runs.specs.Walking.{open_run, open_nulls, open_repeat, entry_by, step};
+ghost use Rattle.am_runs.specs.Positions.{place_of};
 
 use crate::item::Item;
 use am_leb::{read_i, read_u};
@@ -26,7 +27,7 @@ pub struct Position<'a> {
 /// The run of nulls whose count begins the bytes.
 #[inline(always)]
 pub fn open_null_run<'a>(bytes: &'a [u8]) -> Option<Position<'a>>
-    ensures { option_map (λ p. record { kind = p.kind; count = p.count; item = p.item.now; rest = p.rest.now }) result ≡ open_nulls bytes.now (first_unsigned bytes.now) }
+    ensures { option_map place_of result ≡ open_nulls bytes.now (first_unsigned bytes.now) }
 {
     match read_u(bytes) {
         Err(_) => None,
@@ -41,7 +42,7 @@ pub fn open_null_run<'a>(bytes: &'a [u8]) -> Option<Position<'a>>
 }
 
 fn open_repeat_run<'a, K: Item>(count: u64, bytes: &'a [u8]) -> Option<Position<'a>>
-    ensures { option_map (λ p. record { kind = p.kind; count = p.count; item = p.item.now; rest = p.rest.now }) result ≡ open_repeat count bytes.now (K.end_of bytes.now) }
+    ensures { option_map place_of result ≡ open_repeat count bytes.now (K.end_of bytes.now) }
 {
     match K::end(bytes) {
         None => None,
@@ -55,7 +56,7 @@ fn open_repeat_run<'a, K: Item>(count: u64, bytes: &'a [u8]) -> Option<Position<
 }
 
 pub fn opened<'a, K: Item>(bytes: &'a [u8]) -> Option<Position<'a>>
-    ensures { option_map (λ p. record { kind = p.kind; count = p.count; item = p.item.now; rest = p.rest.now }) result ≡ open_run K.end_of bytes.now }
+    ensures { option_map place_of result ≡ open_run K.end_of bytes.now }
 {
     match read_i(bytes) {
         Err(_) => None,
@@ -80,7 +81,7 @@ pub fn opened<'a, K: Item>(bytes: &'a [u8]) -> Option<Position<'a>>
 #[inline(always)]
 fn entry<'a, K: Item>(at: Position<'a>) -> Option<(Option<&'a [u8]>, Position<'a>)>
     requires { 0 < at.count }
-    ensures { option_map (λ x. (option_copied x.0, record { kind = x.1.kind; count = x.1.count; item = x.1.item.now; rest = x.1.rest.now })) result
+    ensures { option_map (λ x. (option_copied x.0, place_of x.1)) result
         ≡ entry_by K.end_of at.entry.kind (at.entry.count - 1) at.entry.item.now at.entry.rest.now }
 {
     let count = at.count - 1;
@@ -104,8 +105,8 @@ fn entry<'a, K: Item>(at: Position<'a>) -> Option<(Option<&'a [u8]>, Position<'a
 
 #[inline(always)]
 pub fn stepped<'a, K: Item>(at: Position<'a>) -> Option<(Option<&'a [u8]>, Position<'a>)>
-    ensures { option_map (λ x. (option_copied x.0, record { kind = x.1.kind; count = x.1.count; item = x.1.item.now; rest = x.1.rest.now })) result
-        ≡ step K.end_of (record { kind = at.entry.kind; count = at.entry.count; item = at.entry.item.now; rest = at.entry.rest.now }) }
+    ensures { option_map (λ x. (option_copied x.0, place_of x.1)) result
+        ≡ step K.end_of (place_of at.entry) }
 {
     if at.count > 0 {
         return entry::<K>(at);

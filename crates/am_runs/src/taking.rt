@@ -2,10 +2,12 @@
 ghost use Rattle.std.specs.Prelude.{◌≡◌, ◌<◌, ◌≤◌, None, IfSome, IfNone};
 ghost use Rattle.std.specs.Option.{option_copied};
 ghost use Rattle.am_runs.specs.Walking.{step, Takes};
+ghost use Rattle.am_runs.specs.Positions.{place_of};
 
 use crate::item::Item;
 use crate::place::{Kind, Position, opened, stepped};
 
+// The same within a run.
 #[inline(always)]
 fn taken_within<'a, K: Item>(
     at: Position<'a>,
@@ -14,9 +16,9 @@ fn taken_within<'a, K: Item>(
     requires within { 0 < at.count }
     requires some { 0 < most }
     ensures found { IfSome result (λ r. (0 < r.1) × (r.1 ≤ most)
-        × Takes K.end_of (record { kind = at.entry.kind; count = at.entry.count; item = at.entry.item.now; rest = at.entry.rest.now }) (option_copied r.0) r.1
-        (record { kind = r.2.kind; count = r.2.count; item = r.2.item.now; rest = r.2.rest.now })) }
-    ensures none { IfNone result (step K.end_of (record { kind = at.entry.kind; count = at.entry.count; item = at.entry.item.now; rest = at.entry.rest.now }) ≡ None) }
+        × Takes K.end_of (place_of at.entry) (option_copied r.0) r.1
+        (place_of r.2)) }
+    ensures none { IfNone result (step K.end_of (place_of at.entry) ≡ None) }
 {
     match at.kind {
         Kind::Literal => match stepped::<K>(at) {
@@ -48,7 +50,7 @@ fn taken_within<'a, K: Item>(
     }
 }
 
-// The next entry, how many like it one run gives from here, and the place behind them.
+/// The next entry, how many like it one run gives from here, at most so many, and the place behind them.
 #[inline(always)]
 pub fn taken<'a, K: Item>(
     at: Position<'a>,
@@ -56,9 +58,9 @@ pub fn taken<'a, K: Item>(
 ) -> Option<(Option<&'a [u8]>, u64, Position<'a>)>
     requires { 0 < most }
     ensures found { IfSome result (λ r. (0 < r.1) × (r.1 ≤ most)
-        × Takes K.end_of (record { kind = at.entry.kind; count = at.entry.count; item = at.entry.item.now; rest = at.entry.rest.now }) (option_copied r.0) r.1
-        (record { kind = r.2.kind; count = r.2.count; item = r.2.item.now; rest = r.2.rest.now })) }
-    ensures none { IfNone result (step K.end_of (record { kind = at.entry.kind; count = at.entry.count; item = at.entry.item.now; rest = at.entry.rest.now }) ≡ None) }
+        × Takes K.end_of (place_of at.entry) (option_copied r.0) r.1
+        (place_of r.2)) }
+    ensures none { IfNone result (step K.end_of (place_of at.entry) ≡ None) }
 {
     if at.count > 0 {
         return taken_within::<K>(at, most);

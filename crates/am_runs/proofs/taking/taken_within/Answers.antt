@@ -1,6 +1,7 @@
 use Rattle.std.proofs.Common.{arith}
 use Rattle.std.proofs.lemmas.Grind.{common_steps}
 use Rattle.am_runs.proofs.Taken.{take_one, take_repeat, take_nulls}
+use Rattle.am_runs.specs.Positions.{place_of}
 use Rattle.am_runs.proofs.taking.taken_within.Goals as goal
 
 pub returns-in-Some-clause-found : goal.returns-in-Some-clause-found
@@ -10,12 +11,12 @@ pub returns-in-Repeat-clause-found : goal.returns-in-Repeat-clause-found
 returns-in-Repeat-clause-found g c = (
   grind (arith, common_steps),
   grind (arith, common_steps),
-  take_repeat _ (record { kind = c.args.at.kind; count = c.args.at.count; item = c.args.at.item.now; rest = c.args.at.rest.now }) _ c.in-Repeat.is (grind (arith, common_steps)),
+  take_repeat _ (place_of c.args.at) _ c.in-Repeat.is (grind (arith, common_steps)),
 )
 
 pub returns-in-Nulls-clause-found : goal.returns-in-Nulls-clause-found
 returns-in-Nulls-clause-found g c = (
   grind (arith, common_steps),
   grind (arith, common_steps),
-  take_nulls _ (record { kind = c.args.at.kind; count = c.args.at.count; item = c.args.at.item.now; rest = c.args.at.rest.now }) _ c.in-Nulls.is (grind (arith, common_steps)),
+  take_nulls _ (place_of c.args.at) _ c.in-Nulls.is (grind (arith, common_steps)),
 )

@@ -1,5 +1,4 @@
-use Rattle.std.proofs.Common.{arith, sym, ap, ◌∙◌, ◌≤◌, take, length}
-use Rattle.std.proofs.lemmas.Grind.{common_steps}
+use Rattle.std.proofs.Common.{arith, sym, ap, ◌∙◌, take, length}
 use Rattle.am_runs.proofs.Entries.{length-entries, never_ends, entries-none}
 use Rattle.am_runs.proofs.cursor.RunCursor.like.Goals as goal
 
@@ -12,8 +11,6 @@ returns-in-None-clause-end g c = absurd (never_ends _ _ _ (omega arith) (sym c.i
 pub returns-in-Some-clause-like : goal.returns-in-Some-clause-like
 returns-in-Some-clause-like g c =
     let size = sym (length-entries _ _ _ c.self.invariant) ∙ ap length c.self.view_is in
-    let k = c.min.result in
-    let some : 1 ≤ k = grind (arith, common_steps) in
-    let least : k ≤ c.in-Some.k = grind (arith, common_steps) in
-    let within : k ≤ c.self.inside.left = grind (arith, common_steps) in
-    (some, omega (arith, size), ap (take k) (sym c.self.view_is) ∙ c.in-Some.ensures.found.1 k _ least within)
+    let k = c.in-Some.k in
+    let found = c.in-Some.ensures.found in
+    (omega (arith, found.0), omega (arith, found.1, size), ap (take k) (sym c.self.view_is) ∙ found.2.1 k _ (omega arith) found.1)
