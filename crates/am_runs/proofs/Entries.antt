@@ -1,3 +1,4 @@
+-- The next entries, one step after the other.
 use Rattle.std.proofs.Common.{◌≡◌, ℕ, suc, zero, ◌-◌, ◌<◌, List, [], ◌∷◌, length, Option, Some, None, refl, sym, ap, ◌∙◌, subst, arith}
 use Rattle.am_runs.specs.Walking.{Place, step, listed, entries, holds_behind, HasEntries}
 

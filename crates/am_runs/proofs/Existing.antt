@@ -1,3 +1,4 @@
+-- Each list of items has a canonical spelling, and only that.
 use Rattle.std.proofs.Common.{◌≡◌, ◌≢◌, ℕ, suc, ◌^◌, ◌<◌, ◌≤◌, List, [], ◌∷◌, length, Option, Some, None, true, false, cond, refl, sym, ap, subst, arith, length-append, inl, inr, ◌↔◌}
 use Rattle.std.specs.Option.{IfSome}
 use Rattle.std.specs.List.{flat_map, AllByRecursion}

@@ -1,3 +1,4 @@
+-- Items are the spellings of numbers and of texts, and what they spell is read back.
 use Rattle.std.proofs.Common.{◌≡◌, ℕ, ◌^◌, ◌<◌, Bool, true, false, List, [], ◌++◌, length, take, drop, Some, Result, Ok, ℤ, refl, sym, ap, ◌∙◌, subst, arith, rules, length-append, length-drop, FitsSigned, w64}
 use Rattle.std.specs.Str.{IsUtf8, is_utf8}
 use Rattle.std.proofs.lemmas.Int.{ints}

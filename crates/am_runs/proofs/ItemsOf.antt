@@ -1,3 +1,4 @@
+-- The entries of a list that bytes spell are null or items.
 use Rattle.std.proofs.Common.{ℕ, zero, suc, List, [], ◌∷◌, ◌++◌, map, Option, Some, None, sym, subst}
 use Rattle.std.specs.Prelude.{replicate}
 use Rattle.std.specs.Option.{IfSome}

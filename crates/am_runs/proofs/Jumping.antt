@@ -1,3 +1,4 @@
+-- Going on by many entries at once.
 use Rattle.std.proofs.Common.{◌≡◌, ℕ, suc, zero, ◌+◌, ◌-◌, ◌<◌, ◌≤◌, List, length, drop, Option, Some, None, min, refl, sym, ap, ◌∙◌, subst, arith}
 use Rattle.std.proofs.lemmas.List.{drop-drop, drop_min}
 use Rattle.am_runs.specs.declared.place.Kind.{Kind}

@@ -1,3 +1,4 @@
+-- Pushing keeps the runs in canonical order.
 use Rattle.std.proofs.Common.{◌≡◌, ◌≢◌, ℕ, suc, List, [], ◌∷◌, ◌++◌, Some, None, refl, sym, ◌∙◌, arith, append_assoc}
 use Rattle.std.specs.List.{flat_map}
 use Rattle.am_runs.specs.Runs.{Run, Repeat, Literal, Nulls}

@@ -1,3 +1,10 @@
+-- The one canonical spelling of a list. (Automerge Binary Document Format, "run length encoding": the longest runs, and
+-- the shortest numbers.)
+--     IsTight run           a repeat has at least two items, a literal run no two equal neighbours
+--     MayFollow r s         the run s may stand behind r: the entries at the seam differ, and not both are literal
+--     AreCanonical runs     each is tight, and each may follow the one before it
+--     Canon end bytes list  the bytes are a canonical spelling of the list
+--     canonical_bytes list  the canonical spelling
 use Rattle.std.specs.Prelude.{◌≡◌, ◌≢◌, ℕ, ◌≤◌, List, [], ◌∷◌, Option, Some, None, Bool, true, false, suc, ◌⊎◌, if◌then◌else◌}
 use Rattle.std.specs.List.{flat_map, AllByRecursion}
 use Rattle.std.specs.Str.{bytes_eq}

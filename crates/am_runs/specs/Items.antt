@@ -1,3 +1,7 @@
+-- Items by their spellings. A kind of item is known by `end`, the length of the item that begins bytes, if one does.
+--     IsItem end bytes      the bytes are one item, whole
+--     ReadsItems end        what `end` keeps
+--     unsigned_end, signed_end, text_end     numbers in their shortest LEB128, and texts in UTF-8 behind their length
 use Rattle.std.specs.Prelude.{◌≡◌, ℕ, ◌+◌, ◌-◌, ◌≤◌, List, [], ◌++◌, length, take, drop, Option, Some, None, Result, Ok, Err, ◌&&◌, nat_le, if◌then◌else◌}
 use Rattle.std.specs.Str.{is_utf8}
 use Rattle.am_leb.specs.declared.LebFault.{LebFault}

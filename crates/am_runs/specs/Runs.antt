@@ -1,3 +1,9 @@
+-- Runs, and the lists that bytes spell by them. (Automerge Binary Document Format, "run length encoding".)
+--     expansion run         its entries
+--     bytes_of run          its bytes: the number of its entries, and what is repeated or listed
+--     JoinsRuns end bytes list     the bytes join those of runs whose entries join to the list
+--     Spells end bytes list        the same, or no bytes and nulls alone
+--     BeginsRun end bytes n rest   a run of n entries begins the bytes, and the rest is behind it
 use Rattle.std.specs.Prelude.{◌≡◌, ℕ, ◌<◌, ◌≤◌, ◌^◌, List, [], ◌++◌, length, Option, Some, None, pos, neg_ℤ, map, replicate, ◌⊎◌}
 use Rattle.std.specs.List.{flat_map, AllByRecursion}
 use Rattle.am_leb.specs.Leb.{leb, uleb}

@@ -1,3 +1,9 @@
+-- A place within the runs of a column, and the steps from there.
+--     open_run end bytes    the place at the first entry of the run that begins the bytes
+--     step end place        the next entry, and the place behind it
+--     entries end n place   the next n entries
+--     HasEntries end n p    just n entries are to come
+--     Jumps, AreAlike, Takes     many entries passed at once, all alike, or both
 use Rattle.std.specs.Prelude.{◌≡◌, ℕ, ◌-◌, ◌≤◌, List, [], ◌∷◌, take, drop, Option, Some, None, Result, Ok, Err, ℤ, pos, negsuc, zero, suc, replicate}
 use Rattle.am_leb.specs.declared.LebFault.{LebFault}
 use Rattle.am_leb.specs.Reading.{first_unsigned, first_signed}
