@@ -1,6 +1,6 @@
 -- Where files are told, the machine gives one reply to a command, and one list of replies to a script, however the two
 -- sets are listed.
-use Rattle.std.proofs.Common.{◌≡◌, ℕ, ◌-◌, ◌<◌, ◌^◌, List, [], ◌∷◌, length, Bool, true, Option, Some, None, Ok, Err, refl, sym, ap, subst, ◌∙◌, inl, inr, ◌⊎◌, arith}
+use Rattle.std.proofs.Common.{◌≡◌, ℕ, ◌-◌, ◌<◌, ◌^◌, List, [], ◌∷◌, length, Bool, true, Option, Some, None, refl, sym, ap, subst, ◌∙◌, inl, inr, ◌⊎◌, arith}
 use Rattle.std.specs.Prelude.{All, IsPermutation, find, not}
 use Rattle.std.proofs.lemmas.List.Sorted.{IsPermutation-refl, IsPermutation-sym, IsPermutation-trans, IsPermutation-map, length_permutation, list_any-IsPermutation}
 use Rattle.am_outside.specs.Files.{Files, Stands}
@@ -19,25 +19,27 @@ use Rattle.am_store.specs.Kept.{Kept, with_hashes}
 use Rattle.am_store.specs.Files as store
 use Rattle.am_store.specs.declared.LoadFault.{LoadFault}
 use Rattle.am_cli.proofs.Coming.{changes_may_come}
-use Rattle.am_cli.specs.Line.{Asked}
+use Rattle.am_cli.specs.declared.asked.Asked.{Asked}
+use Rattle.am_cli.specs.declared.asked.Asked.TheVariants.{Do, LongLine, Syntax, BadHash}
+use Rattle.am_cli.specs.Session.{Held, SameSets, SameHeld, nothing_held, with_kept}
+use Rattle.am_cli.proofs.SameHeld.{MayHold, same_held, between, same_with}
 use Rattle.am_cli.specs.Replies.{hash_list}
 use Rattle.am_cli.specs.Listing.{Lists, listing, bad_chunk}
 use Rattle.am_cli.specs.Apply.{Applies, Delivers, outcome, report_text, bad_file}
 use Rattle.am_cli.specs.Reading.{reading_by, reading_at, reading}
 use Rattle.am_json.specs.declared.Form.{Form}
 use Rattle.am_json.specs.declared.Form.TheVariants as form
-use Rattle.am_cli.specs.Machine.{State, state, first_state, SameSets, SameState, Answers, Runs, left_after}
+use Rattle.am_cli.specs.Machine.{State, state, first_state, SameState, Answers, Runs, left_after}
 use Rattle.am_cli.specs.declared.command.Command.TheVariants.{Frames, Apply, Heads, Waiting, Show, Conflicts}
-use Rattle.am_cli.specs.declared.command.LineFault.TheVariants.{Syntax, BadHash}
 
 -- what the crates below promise
 pub record Laws : Type 0 where
   pub file : (bytes : List ℕ) (chunks others : List Chunk) → IsFile bytes chunks → IsFile bytes others → chunks ≡ others
   pub bad : (bytes : List ℕ) (j k : ℕ) (fault other : FrameFault) → FirstBad bytes j fault → FirstBad bytes k other → (j ≡ k) × (fault ≡ other)
   pub never_both : (bytes : List ℕ) (chunks : List Chunk) (k : ℕ) (fault : FrameFault) → IsFile bytes chunks → FirstBad bytes k fault → ⊥
-  pub one_file : (bytes : List ℕ) (cs ds : List Change) → store.IsFile true bytes cs → store.IsFile true bytes ds → cs ≡ ds
-  pub one_fault : (bytes : List ℕ) (j k : ℕ) (f g : LoadFault) → store.FirstBad true bytes j f → store.FirstBad true bytes k g → (j ≡ k) × (f ≡ g)
-  pub file_or_fault : (bytes : List ℕ) (cs : List Change) (k : ℕ) (f : LoadFault) → store.IsFile true bytes cs → store.FirstBad true bytes k f → ⊥
+  pub one_file : (only : Bool) (bytes : List ℕ) (cs ds : List Change) → store.IsFile only bytes cs → store.IsFile only bytes ds → cs ≡ ds
+  pub one_fault : (only : Bool) (bytes : List ℕ) (j k : ℕ) (f g : LoadFault) → store.FirstBad only bytes j f → store.FirstBad only bytes k g → (j ≡ k) × (f ≡ g)
+  pub file_or_fault : (only : Bool) (bytes : List ℕ) (cs : List Change) (k : ℕ) (f : LoadFault) → store.IsFile only bytes cs → store.FirstBad only bytes k f → ⊥
   pub deliveries : delivery.ListingIsFree
   pub stored : delivery.StaysStored
   pub reads : ListingIsFree
@@ -45,18 +47,9 @@ pub record Laws : Type 0 where
 
 -- ---- states that list the same sets
 
-same_sets : (k : Kept) → SameSets k k
-same_sets k = record { closed = IsPermutation-refl k.closed; waiting = IsPermutation-refl k.waiting }
-
-between : (j k l : Kept) → SameSets j k → SameSets j l → SameSets k l
-between j k l p q = record {
-  closed = IsPermutation-trans k.closed j.closed l.closed (IsPermutation-sym j.closed k.closed p.closed) q.closed;
-  waiting = IsPermutation-trans k.waiting j.waiting l.waiting (IsPermutation-sym j.waiting k.waiting p.waiting) q.waiting;
-}
-
--- a state whose sets a store keeps, and whose files are told
+-- a state of what a session may hold, and whose files are told
 pub record Sound (s : State) : Type 0 where
-  pub stored : AreStored s.kept.closed s.kept.waiting
+  pub held : MayHold s.held
   pub told : Files
   pub files : s.files ≡ Some told
 
@@ -68,13 +61,13 @@ pub record Agree (r q : List ℕ) (end other : State) : Type 0 where
   pub left : SameState next end
   pub right : SameState next other
 
--- the same for the sets alone
-record AgreeSets (r q : List ℕ) (end other : Kept) : Type 0 where
+-- the same of what is held
+record AgreeHeld (r q : List ℕ) (end other : Held) : Type 0 where
   reply : r ≡ q
-  next : Kept
-  stored : AreStored next.closed next.waiting
-  left : SameSets next end
-  right : SameSets next other
+  next : Held
+  may : MayHold next
+  left : SameHeld next end
+  right : SameHeld next other
 
 stay : (c s t : State) (r q : List ℕ) (end other : State) → Sound c → SameState c s → SameState c t → r ≡ q → end ≡ s → other ≡ t → Agree r q end other
 stay c s t r q end other sound p k same e f = record {
@@ -119,47 +112,48 @@ one_report law c s cs reply new stored come same told =
       },
     )
 
-one_applied : Laws → (c s t : Kept) → AreStored c.closed c.waiting → SameSets c s → SameSets c t → (file other : Option (List ℕ)) (r q : List ℕ) (end last : Kept) → file ≡ other → Applies file s r end → Applies other t q last → AgreeSets r q end last
-one_applied law c s t stored p k None None r q end last e f g = record {
+one_applied : Laws → (only : Bool) (c s t : Held) → MayHold c → SameHeld c s → SameHeld c t → (file other : Option (List ℕ)) (r q : List ℕ) (end last : Held) → file ≡ other → Applies only file s r end → Applies only other t q last → AgreeHeld r q end last
+one_applied law only c s t may p k None None r q end last e f g = record {
   reply = f.0 ∙ sym g.0;
   next = c;
-  stored = stored;
-  left = subst (SameSets c) (sym f.1) p;
-  right = subst (SameSets c) (sym g.1) k;
+  may = may;
+  left = subst (SameHeld c) (sym f.1) p;
+  right = subst (SameHeld c) (sym g.1) k;
 }
-one_applied law c s t stored p k None (Some bytes) r q end last e f g = absurd (cc)
-one_applied law c s t stored p k (Some bytes) None r q end last e f g = absurd (cc)
-one_applied law c s t stored p k (Some bytes) (Some others) r q end last e f g = one f (subst (λ b. Applies (Some b) t q last) (sym same) g)
+one_applied law only c s t may p k None (Some bytes) r q end last e f g = absurd (cc)
+one_applied law only c s t may p k (Some bytes) None r q end last e f g = absurd (cc)
+one_applied law only c s t may p k (Some bytes) (Some others) r q end last e f g = one f (subst (λ b. Applies only (Some b) t q last) (sym same) g)
   where
     same : bytes ≡ others
     same = cc
 
-    both : (cs : List Change) → store.IsFile true bytes cs → Delivers s cs r end → Delivers t cs q last → AgreeSets r q end last
-    both cs is x y =
-        let come = changes_may_come bytes cs is in
-        let here = one_report law c s cs r end stored come p x in
-        let there = one_report law c t cs q last stored come k y in
+    both : (cs : List Change) → store.IsFile only bytes cs → Delivers s.kept cs r end.kept → end ≡ with_kept s end.kept → Delivers t.kept cs q last.kept → last ≡ with_kept t last.kept → AgreeHeld r q end last
+    both cs is x e y f =
+        let come = changes_may_come only bytes cs is in
+        let here = one_report law c.kept s.kept cs r end.kept may come p.sets x in
+        let there = one_report law c.kept t.kept cs q last.kept may come k.sets y in
+        let sets : Kept = record { closed = (outcome c.kept cs).closed; waiting = (outcome c.kept cs).waiting } in
         record {
           reply = here.0 ∙ sym there.0;
-          next = record { closed = (outcome c cs).closed; waiting = (outcome c cs).waiting };
-          stored = law.stored c.closed c.waiting (with_hashes cs) stored come;
-          left = here.1;
-          right = there.1;
+          next = with_kept c sets;
+          may = law.stored c.kept.closed c.kept.waiting (with_hashes cs) may come;
+          left = same_with c s end sets p here.1 e;
+          right = same_with c t last sets k there.1 f;
         }
 
-    one : (((cs : List Change) × store.IsFile true bytes cs × Delivers s cs r end) ⊎ ((k : ℕ) × (fault : LoadFault) × store.FirstBad true bytes k fault × (r ≡ bad_file fault k) × (end ≡ s)))
-        → (((cs : List Change) × store.IsFile true bytes cs × Delivers t cs q last) ⊎ ((k : ℕ) × (fault : LoadFault) × store.FirstBad true bytes k fault × (q ≡ bad_file fault k) × (last ≡ t))) → AgreeSets r q end last
-    one (inl x) (inl y) = both x.0 x.1 x.2 (subst (λ cs. Delivers t cs q last) (law.one_file bytes y.0 x.0 y.1 x.1) y.2)
-    one (inl x) (inr y) = absurd (law.file_or_fault bytes x.0 y.0 y.1 x.1 y.2)
-    one (inr x) (inl y) = absurd (law.file_or_fault bytes y.0 x.0 x.1 y.1 x.2)
+    one : (((cs : List Change) × store.IsFile only bytes cs × Delivers s.kept cs r end.kept × (end ≡ with_kept s end.kept)) ⊎ ((k : ℕ) × (fault : LoadFault) × store.FirstBad only bytes k fault × (r ≡ bad_file fault k) × (end ≡ s)))
+        → (((cs : List Change) × store.IsFile only bytes cs × Delivers t.kept cs q last.kept × (last ≡ with_kept t last.kept)) ⊎ ((k : ℕ) × (fault : LoadFault) × store.FirstBad only bytes k fault × (q ≡ bad_file fault k) × (last ≡ t))) → AgreeHeld r q end last
+    one (inl x) (inl y) = both x.0 x.1 x.2 x.3 (subst (λ cs. Delivers t.kept cs q last.kept) (law.one_file only bytes y.0 x.0 y.1 x.1) y.2) y.3
+    one (inl x) (inr y) = absurd (law.file_or_fault only bytes x.0 y.0 y.1 x.1 y.2)
+    one (inr x) (inl y) = absurd (law.file_or_fault only bytes y.0 x.0 x.1 y.1 x.2)
     one (inr x) (inr y) =
-        let bad = law.one_fault bytes x.0 y.0 x.1 y.1 x.2 y.2 in
+        let bad = law.one_fault only bytes x.0 y.0 x.1 y.1 x.2 y.2 in
         record {
           reply = x.3 ∙ (λ i. bad_file (bad.1 i) (bad.0 i)) ∙ sym y.3;
           next = c;
-          stored = stored;
-          left = subst (SameSets c) (sym x.4) p;
-          right = subst (SameSets c) (sym y.4) k;
+          may = may;
+          left = subst (SameHeld c) (sym x.4) p;
+          right = subst (SameHeld c) (sym y.4) k;
         }
 
 -- what is read doesn't depend on how the closed set is listed
@@ -179,39 +173,40 @@ one_found c s t name file other sound p k f g =
     sym a ∙ b
 
 one_answer : Laws → (c s t : State) (asked : Asked) (r q : List ℕ) (end other : State) → Sound c → SameState c s → SameState c t → Answers s asked r end → Answers t asked q other → Agree r q end other
-one_answer law c s t (Ok (Frames name)) r q end other sound p k f g = stay c s t r q end other sound p k (one_listing law f.0 g.0 r q (one_found c s t name f.0 g.0 sound p k f.1 g.1) f.2 g.2) f.3 g.3
-one_answer law c s t (Ok (Apply name)) r q end other sound p k f g =
-    let sets = one_applied law c.kept s.kept t.kept sound.stored p.sets k.sets f.0 g.0 r q end.kept other.kept (one_found c s t name f.0 g.0 sound p k f.1 g.1) f.2 g.2 in
+one_answer law c s t (Do (Frames name)) r q end other sound p k f g = stay c s t r q end other sound p k (one_listing law f.0 g.0 r q (one_found c s t name f.0 g.0 sound p k f.1 g.1) f.2 g.2) f.3 g.3
+one_answer law c s t (Do (Apply name)) r q end other sound p k f g =
+    let held = one_applied law true c.held s.held t.held sound.held p.held k.held f.0 g.0 r q end.held other.held (one_found c s t name f.0 g.0 sound p k f.1 g.1) f.2 g.2 in
     record {
-      reply = sets.reply;
-      next = state sets.next c.files;
-      sound = record { stored = sets.stored; told = sound.told; files = sound.files };
-      left = record { sets = sets.left; files = p.files ∙ sym f.3 };
-      right = record { sets = sets.right; files = k.files ∙ sym g.3 };
+      reply = held.reply;
+      next = state held.next c.files;
+      sound = record { held = held.may; told = sound.told; files = sound.files };
+      left = record { held = held.left; files = p.files ∙ sym f.3 };
+      right = record { held = held.right; files = k.files ∙ sym g.3 };
     }
-one_answer law c s t (Ok Heads) r q end other sound p k f g =
-    let here = (law.reads c.kept.closed s.kept.closed sound.stored.valid p.sets.closed).heads in
-    let there = (law.reads c.kept.closed t.kept.closed sound.stored.valid k.sets.closed).heads in
+one_answer law c s t (Do Heads) r q end other sound p k f g =
+    let here = (law.reads c.held.kept.closed s.held.kept.closed sound.held.valid p.held.sets.closed).heads in
+    let there = (law.reads c.held.kept.closed t.held.kept.closed sound.held.valid k.held.sets.closed).heads in
     stay c s t r q end other sound p k (f.0 ∙ ap hash_list (here ∙ sym there) ∙ sym g.0) f.1 g.1
-one_answer law c s t (Ok Waiting) r q end other sound p k f g =
-    let here = law.sorts (hashes c.kept.waiting) (hashes s.kept.waiting) (IsPermutation-map (λ m. m.hash) c.kept.waiting s.kept.waiting p.sets.waiting) in
-    let there = law.sorts (hashes c.kept.waiting) (hashes t.kept.waiting) (IsPermutation-map (λ m. m.hash) c.kept.waiting t.kept.waiting k.sets.waiting) in
+one_answer law c s t (Do Waiting) r q end other sound p k f g =
+    let here = law.sorts (hashes c.held.kept.waiting) (hashes s.held.kept.waiting) (IsPermutation-map (λ m. m.hash) c.held.kept.waiting s.held.kept.waiting p.held.sets.waiting) in
+    let there = law.sorts (hashes c.held.kept.waiting) (hashes t.held.kept.waiting) (IsPermutation-map (λ m. m.hash) c.held.kept.waiting t.held.kept.waiting k.held.sets.waiting) in
     stay c s t r q end other sound p k (f.0 ∙ ap hash_list (here ∙ sym there) ∙ sym g.0) f.1 g.1
-one_answer law c s t (Ok (Show named)) r q end other sound p k f g =
-    let here = one_read law form.Winners named c.kept.closed s.kept.closed sound.stored.valid p.sets.closed in
-    let there = one_read law form.Winners named c.kept.closed t.kept.closed sound.stored.valid k.sets.closed in
+one_answer law c s t (Do (Show named)) r q end other sound p k f g =
+    let here = one_read law form.Winners named c.held.kept.closed s.held.kept.closed sound.held.valid p.held.sets.closed in
+    let there = one_read law form.Winners named c.held.kept.closed t.held.kept.closed sound.held.valid k.held.sets.closed in
     stay c s t r q end other sound p k (f.0 ∙ here ∙ sym there ∙ sym g.0) f.1 g.1
-one_answer law c s t (Ok (Conflicts named)) r q end other sound p k f g =
-    let here = one_read law form.All named c.kept.closed s.kept.closed sound.stored.valid p.sets.closed in
-    let there = one_read law form.All named c.kept.closed t.kept.closed sound.stored.valid k.sets.closed in
+one_answer law c s t (Do (Conflicts named)) r q end other sound p k f g =
+    let here = one_read law form.All named c.held.kept.closed s.held.kept.closed sound.held.valid p.held.sets.closed in
+    let there = one_read law form.All named c.held.kept.closed t.held.kept.closed sound.held.valid k.held.sets.closed in
     stay c s t r q end other sound p k (f.0 ∙ here ∙ sym there ∙ sym g.0) f.1 g.1
-one_answer law c s t (Err Syntax) r q end other sound p k f g = stay c s t r q end other sound p k (f.0 ∙ sym g.0) f.1 g.1
-one_answer law c s t (Err BadHash) r q end other sound p k f g = stay c s t r q end other sound p k (f.0 ∙ sym g.0) f.1 g.1
+one_answer law c s t LongLine r q end other sound p k f g = stay c s t r q end other sound p k (f.0 ∙ sym g.0) f.1 g.1
+one_answer law c s t Syntax r q end other sound p k f g = stay c s t r q end other sound p k (f.0 ∙ sym g.0) f.1 g.1
+one_answer law c s t BadHash r q end other sound p k f g = stay c s t r q end other sound p k (f.0 ∙ sym g.0) f.1 g.1
 
 -- ---- whole scripts
 
 same_state : (c s t : State) → SameState c s → SameState c t → SameState s t
-same_state c s t p k = record { sets = between c.kept s.kept t.kept p.sets k.sets; files = sym p.files ∙ k.files }
+same_state c s t p k = record { held = between c.held s.held t.held p.held k.held; files = sym p.files ∙ k.files }
 
 -- as many replies are the same ones, and leave the same to do
 same_front : Laws → (stops : Bool) (c s t : State) (asked : List Asked) (rs qs : List (List ℕ)) (end other : State) (left more : List Asked) → Sound c → SameState c s → SameState c t → Runs stops s asked rs end left → Runs stops t asked qs other more → length rs ≡ length qs → (rs ≡ qs) × SameState end other × (left ≡ more)
@@ -248,10 +243,10 @@ empty_stored = record {
 }
 
 first_sound : (files : Files) → Sound (first_state (Some files))
-first_sound files = record { stored = empty_stored; told = files; files = refl }
+first_sound files = record { held = empty_stored; told = files; files = refl }
 
 first_same : (files : Files) → SameState (first_state (Some files)) (first_state (Some files))
-first_same files = record { sets = same_sets (record { closed = []; waiting = [] }); files = refl }
+first_same files = record { held = same_held nothing_held; files = refl }
 
 pub front : Laws → (stops : Bool) (files : Files) (asked : List Asked) (rs qs : List (List ℕ)) (end other : State) (left more : List Asked) → Runs stops (first_state (Some files)) asked rs end left → Runs stops (first_state (Some files)) asked qs other more → length rs ≡ length qs → (rs ≡ qs) × SameState end other × (left ≡ more)
 front law stops files asked rs qs end other left more f g n =

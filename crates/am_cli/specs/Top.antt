@@ -4,7 +4,7 @@ use Rattle.std.specs.List.{list_any}
 use Rattle.std.specs.Io.KnownBytes.{IsAtEnd}
 use Rattle.am_outside.specs.Counts.{raised}
 use Rattle.am_outside.specs.Files.{Files}
-use Rattle.am_cli.specs.Line.{Asked}
+use Rattle.am_cli.specs.declared.asked.Asked.{Asked}
 use Rattle.am_cli.specs.Script.{all_asked}
 use Rattle.am_cli.specs.Replies.{is_refused}
 use Rattle.am_cli.specs.Machine.{State, first_state}
@@ -25,11 +25,17 @@ pub record Input : Type 0 where
   pub left : Option (List ℕ)
   pub taken : ℕ
 
+abbrev pub input_of : Option (List ℕ) → ℕ → Input
+input_of left taken = record { left = left; taken = taken }
+
 -- a folder and an output, as far as they can be seen
 pub record Outside : Type 0 where
   pub files : Option Files
   pub misses : ℕ
   pub written : Option (List ℕ)
+
+abbrev pub outside : Option Files → ℕ → Option (List ℕ) → Outside
+outside files misses written = record { files = files; misses = misses; written = written }
 
 -- the whole input was taken, and it is this script
 pub record IsWhole (script : List ℕ) (before after : Input) : Type 0 where

@@ -2,7 +2,8 @@
 ghost use Rattle.std.specs.Prelude.{◌≡◌, ◌≤◌, ◌<◌, ◌++◌, ◌+◌, ℕ, List, length, IfOk, IfSome, IsErrOf};
 ghost use Rattle.std.specs.Io.KnownBytes.{prepend_known, IsAtEnd};
 ghost use Rattle.am_outside.specs.Counts.{raised, Rose, RoseBy};
-ghost use Rattle.am_cli.specs.Top.{IsWhole};
+ghost use Rattle.am_cli.specs.FirstFault.{Ended, is_err_at, is_failed_read};
+ghost use Rattle.am_cli.specs.Top.{IsWhole, input_of};
 
 use am_outside::{Failed, Source};
 use std::alloc::{AllocError, Global};
@@ -47,7 +48,8 @@ impl From<AllocError> for Unread {
     }
 }
 
-// Adds the next piece to a script, and says how long it is: 0 at the end alone.
+// Adds the next piece to a script, and says how long it is: 0 at the end alone. A read is one call, and no other follows.
+#[tactic(auto, using(crate::proofs::FirstFault::call_went, crate::proofs::FirstFault::call_failed))]
 fn read_piece<I: Source>(
     input: &mut I,
     buffer: &mut [u8],
@@ -61,6 +63,7 @@ fn read_piece<I: Source>(
     ensures faults { I.faults input.old ≤ I.faults input.new }
     ensures failed { IsErrOf result Unread.Failed → Rose (I.faults input.old) (I.faults input.new) }
     ensures never_long { IsErrOf result Unread.Long → ⊥ }
+    ensures ended { Ended (is_err_at is_failed_read result) (I.calls input.old) (I.calls input.new) }
 {
     let count = input.read(buffer)?;
     let (piece, _) = buffer.split_at(count);
@@ -68,15 +71,16 @@ fn read_piece<I: Source>(
     Ok(count)
 }
 
-/// The whole input, where it isn't too long.
-#[tactic(auto, using(crate::proofs::Source::left_start, crate::proofs::Source::left_more, crate::proofs::Source::rose_more, crate::proofs::Source::all_read, crate::proofs::Source::longer, crate::proofs::Source::counted_more, crate::proofs::Source::counted_end))]
+/// The whole input, where it isn't too long. The first fault ends it.
+#[tactic(auto, using(crate::proofs::Source::left_start, crate::proofs::Source::left_more, crate::proofs::Source::rose_more, crate::proofs::Source::all_read, crate::proofs::Source::longer, crate::proofs::Source::counted_more, crate::proofs::Source::counted_end, crate::proofs::FirstFault::no_call, crate::proofs::FirstFault::ended_more))]
 pub fn read_all<I: Source>(alloc: Global, input: &mut I) -> Result<Vec<u8>, Unread>
-    ensures whole { IfOk result (λ script. IsWhole script.items (record { left = I.left input.old; taken = I.taken input.old }) (record { left = I.left input.new; taken = I.taken input.new })) }
+    ensures whole { IfOk result (λ script. IsWhole script.items (input_of (I.left input.old) (I.taken input.old)) (input_of (I.left input.new) (I.taken input.new))) }
     ensures bound { I.taken input.new ≤ I.taken input.old + (LONGEST + 1) }
     ensures faults { I.faults input.old ≤ I.faults input.new }
     ensures failed { IsErrOf result Unread.Failed → Rose (I.faults input.old) (I.faults input.new) }
     ensures long { IsErrOf result Unread.Long → RoseBy (LONGEST + 1) (I.taken input.old) (I.taken input.new) }
     ensures more { IsErrOf result Unread.Long → IfSome (I.left input.old) (λ all. LONGEST < length all) }
+    ensures ended { Ended (is_err_at is_failed_read result) (I.calls input.old) (I.calls input.new) }
 {
     let mut script = Vec::new(alloc);
     let mut buffer = [0u8; 4096];

@@ -1,7 +1,7 @@
 //! A law about the machine. The function does nothing; its contract is the law.
 ghost use Rattle.std.specs.Prelude.{◌≡◌, ℕ, List, [], length, Bool, Some};
 ghost use Rattle.am_outside.specs.Files.{Files};
-ghost use Rattle.am_cli.specs.Line.{Asked};
+ghost use Rattle.am_cli.specs.declared.asked.Asked.{Asked};
 ghost use Rattle.am_cli.specs.Machine.{State, SameState, first_state, Runs};
 
 /// Where files are told, the machine gives one list of replies to the same commands, and goes on to one state, but for

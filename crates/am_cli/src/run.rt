@@ -1,20 +1,22 @@
 //! The top call.
-ghost use Rattle.std.specs.Prelude.{◌≡◌, ◌≢◌, ◌≤◌, ◌<◌, ◌+◌, ◌↔◌, ◌⊎◌, List, length, IfOk, IfSome, IsErrOf, Some, None, Bool};
+ghost use Rattle.std.specs.Prelude.{◌≡◌, ◌≢◌, ◌≤◌, ◌<◌, ◌+◌, ◌↔◌, ◌⊎◌, List as AList, length, IfOk, IfSome, IsErrOf, Some, None, Bool};
 ghost use Rattle.am_outside.specs.Counts.{Rose, RoseBy};
-ghost use Rattle.am_cli.specs.Line.{Asked};
+ghost use Rattle.am_cli.specs.declared.asked.Asked.{Asked as AnAsked};
+ghost use Rattle.am_cli.specs.FirstFault.{Ended, is_err_at, is_failed_read, is_input_fault, is_file_fault, is_output_fault};
 ghost use Rattle.am_cli.specs.Words.{plan_of, stops_of};
-ghost use Rattle.am_cli.specs.Top.{Asks, Finished, Broken, IsBefore, some_is_refused, halt_of};
+ghost use Rattle.am_cli.specs.Top.{input_of, outside, Asks, Finished, Broken, IsBefore, some_is_refused, halt_of};
 
+use crate::asked::Asked;
 use crate::carry::carry_out;
-use crate::command::{Command, LineFault};
 use crate::halt::Halt;
 use crate::input::{LONGEST, Unread, read_all};
 use crate::plan::Plan;
+use crate::requests::Requests;
 use crate::script::read_script;
+use crate::session::Session;
 use crate::words::plan;
 use am_outside::{Folder, Sink, Source};
-use am_store::Store;
-use am_types::Text;
+use am_types::{List, Text};
 use std::alloc::Global;
 
 /// How a run ended. After `FileFault`, `OutputFault` and `NoMemory` some first commands of the script were carried out,
@@ -61,27 +63,29 @@ impl Status {
 }
 
 // Carries out commands from the first state.
-fn carry_all<F: Folder, O: Sink>(
+fn carry_all<R: Requests, F: Folder, O: Sink>(
     alloc: Global,
     stops: bool,
-    asked: &[Result<Command, LineFault>],
+    asked: &R,
     files: &mut F,
     out: &mut O,
 ) -> Status
-    ensures done { (refused : Bool) → some_is_refused result ≡ Some refused → Finished stops asked.now refused
-        (record { files = F.files files.old; misses = F.misses files.old; written = O.written out.old }) (record { files = F.files files.new; misses = F.misses files.new; written = O.written out.new }) }
-    ensures stopped { IfSome (halt_of result) (λ halt. Broken stops asked.now halt
-        (record { files = F.files files.old; misses = F.misses files.old; written = O.written out.old }) (record { files = F.files files.new; misses = F.misses files.new; written = O.written out.new })) }
+    ensures done { (refused : Bool) → some_is_refused result ≡ Some refused → Finished stops (R.asked asked.now) refused
+        (outside (F.files files.old) (F.misses files.old) (O.written out.old)) (outside (F.files files.new) (F.misses files.new) (O.written out.new)) }
+    ensures stopped { IfSome (halt_of result) (λ halt. Broken stops (R.asked asked.now) halt
+        (outside (F.files files.old) (F.misses files.old) (O.written out.old)) (outside (F.files files.new) (F.misses files.new) (O.written out.new))) }
     ensures within { IsBefore result → ⊥ }
     ensures file { result ≡ Status.FileFault → Rose (F.faults files.old) (F.faults files.new) }
     ensures output { result ≡ Status.OutputFault → Rose (O.faults out.old) (O.faults out.new) }
     ensures file_faults { F.faults files.old ≤ F.faults files.new }
     ensures output_faults { O.faults out.old ≤ O.faults out.new }
+    ensures folder_ended { Ended (is_file_fault result) (F.calls files.old) (F.calls files.new) }
+    ensures output_ended { Ended (is_output_fault result) (O.calls out.old) (O.calls out.new) }
 {
-    let Ok(mut store) = Store::new(alloc) else {
+    let Ok(mut session) = Session::new(alloc) else {
         return Status::NoMemory;
     };
-    match carry_out(alloc, stops, asked, &mut store, files, out) {
+    match carry_out(alloc, stops, asked, &mut session, files, out) {
         Ok(false) => Status::Done,
         Ok(true) => Status::SomeRefused,
         Err(Halt::File) => Status::FileFault,
@@ -91,15 +95,13 @@ fn carry_all<F: Folder, O: Sink>(
 }
 
 // What the input's lines ask for.
-fn asked_of_input<I: Source>(
-    alloc: Global,
-    input: &mut I,
-) -> Result<Vec<Result<Command, LineFault>>, Unread>
-    ensures asks { IfOk result (λ asked. Asks Plan.ReadInput asked.items (record { left = I.left input.old; taken = I.taken input.old }) (record { left = I.left input.new; taken = I.taken input.new })) }
+fn asked_of_input<I: Source>(alloc: Global, input: &mut I) -> Result<List<Asked>, Unread>
+    ensures asks { IfOk result (λ asked. Asks Plan.ReadInput asked (input_of (I.left input.old) (I.taken input.old)) (input_of (I.left input.new) (I.taken input.new))) }
     ensures bound { I.taken input.new ≤ I.taken input.old + (LONGEST + 1) }
     ensures failed { IsErrOf result Unread.Failed → Rose (I.faults input.old) (I.faults input.new) }
     ensures long { IsErrOf result Unread.Long → RoseBy (LONGEST + 1) (I.taken input.old) (I.taken input.new) }
     ensures more { IsErrOf result Unread.Long → IfSome (I.left input.old) (λ all. LONGEST < length all) }
+    ensures ended { Ended (is_err_at is_failed_read result) (I.calls input.old) (I.calls input.new) }
 {
     let script = read_all(alloc, input)?;
     Ok(read_script(alloc, &script)?)
@@ -115,21 +117,22 @@ pub fn run<I: Source, F: Folder, O: Sink>(
     out: &mut O,
 ) -> Status
     // Every command was carried out and every reply written, and a reply refuses exactly at SomeRefused.
-    ensures done { (refused : Bool) → some_is_refused result ≡ Some refused → (plan : Plan) × (asked : List Asked)
-        × (plan_of words.now ≡ Some plan) × Asks plan asked (record { left = I.left input.old; taken = I.taken input.old }) (record { left = I.left input.new; taken = I.taken input.new })
+    ensures done { (refused : Bool) → some_is_refused result ≡ Some refused → (plan : Plan) × (asked : AList AnAsked)
+        × (plan_of words.now ≡ Some plan) × Asks plan asked (input_of (I.left input.old) (I.taken input.old)) (input_of (I.left input.new) (I.taken input.new))
         × Finished (stops_of plan) asked refused
-        (record { files = F.files files.old; misses = F.misses files.old; written = O.written out.old }) (record { files = F.files files.new; misses = F.misses files.new; written = O.written out.new }) }
+        (outside (F.files files.old) (F.misses files.old) (O.written out.old)) (outside (F.files files.new) (F.misses files.new) (O.written out.new)) }
     // A fault came within the commands, or memory was wanting before the first of them and nothing was done.
     ensures stopped { IfSome (halt_of result) (λ halt.
         ((halt ≡ Halt.NoMemory) × (out.new ≡ out.old) × (files.new ≡ files.old))
-        ⊎ ((plan : Plan) × (asked : List Asked)
-        × (plan_of words.now ≡ Some plan) × Asks plan asked (record { left = I.left input.old; taken = I.taken input.old }) (record { left = I.left input.new; taken = I.taken input.new })
+        ⊎ ((plan : Plan) × (asked : AList AnAsked)
+        × (plan_of words.now ≡ Some plan) × Asks plan asked (input_of (I.left input.old) (I.taken input.old)) (input_of (I.left input.new) (I.taken input.new))
         × Broken (stops_of plan) asked halt
-        (record { files = F.files files.old; misses = F.misses files.old; written = O.written out.old }) (record { files = F.files files.new; misses = F.misses files.new; written = O.written out.new }))) }
+        (outside (F.files files.old) (F.misses files.old) (O.written out.old)) (outside (F.files files.new) (F.misses files.new) (O.written out.new)))) }
     ensures unwritten { IsBefore result → out.new ≡ out.old }
     ensures unkept { IsBefore result → files.new ≡ files.old }
 
-    ensures bad { result ≡ Status.BadWords ↔ (plan_of words.now ≡ None) }
+    ensures bad { result ≡ Status.BadWords → plan_of words.now ≡ None }
+    ensures unplanned { plan_of words.now ≡ None → result ≡ Status.BadWords }
     ensures unread { (plan_of words.now ≢ Some Plan.ReadInput) → input.new ≡ input.old }
     ensures bound { I.taken input.new ≤ I.taken input.old + (LONGEST + 1) }
 
@@ -139,6 +142,12 @@ pub fn run<I: Source, F: Folder, O: Sink>(
     ensures output { result ≡ Status.OutputFault → Rose (O.faults out.old) (O.faults out.new) }
     ensures long { result ≡ Status.InputLong → RoseBy (LONGEST + 1) (I.taken input.old) (I.taken input.new) }
     ensures more { result ≡ Status.InputLong → IfSome (I.left input.old) (λ all. LONGEST < length all) }
+
+    // The first fault ends the run: where an object tells its calls, none of them in this run fails but the last, and that
+    // one exactly at the status that tells of this object's fault.
+    ensures input_ended { Ended (is_input_fault result) (I.calls input.old) (I.calls input.new) }
+    ensures folder_ended { Ended (is_file_fault result) (F.calls files.old) (F.calls files.new) }
+    ensures output_ended { Ended (is_output_fault result) (O.calls out.old) (O.calls out.new) }
 {
     match plan(words) {
         None => Status::BadWords,
@@ -153,6 +162,12 @@ pub fn run<I: Source, F: Folder, O: Sink>(
 
 #[cfg(test)]
 mod chunks;
+#[cfg(test)]
+mod limits;
+#[cfg(test)]
+mod memory;
+#[cfg(test)]
+mod notes;
 #[cfg(test)]
 mod scripts;
 #[cfg(test)]

@@ -1,0 +1,39 @@
+-- What each command owes, whether it gives a reply or not.
+--     Seen                                       a folder, as far as it can be seen
+--     Answered asked old before result new after     this is the answer to what is asked, and what was done meanwhile
+use Rattle.std.specs.Prelude.{◌≡◌, ℕ, ◌≤◌, List, Option, Result, IfOk, IsErrOf, IsTrue}
+use Rattle.am_outside.specs.Calls.{Calls}
+use Rattle.am_outside.specs.Counts.{Rose}
+use Rattle.am_outside.specs.Files.{Files}
+use Rattle.am_cli.specs.Session.{Held}
+use Rattle.am_cli.specs.Replies.{is_absent}
+use Rattle.am_cli.specs.Machine.{Answers, state, names_file, kept_file}
+use Rattle.am_cli.specs.Ends.{FilesStay}
+use Rattle.am_cli.specs.FirstFault.{Ended, is_err_at, is_file_stop}
+use Rattle.am_cli.specs.declared.asked.Asked.{Asked}
+use Rattle.am_cli.specs.declared.halt.Stop.{Stop}
+use Rattle.am_cli.specs.declared.halt.Stop.TheVariants.{File, NoMemory}
+
+pub record Seen : Type 0 where
+  pub files : Option Files
+  pub misses : ℕ
+  pub faults : ℕ
+  pub calls : Option Calls
+
+abbrev pub seen : Option Files → ℕ → ℕ → Option Calls → Seen
+seen files misses faults calls = record { files = files; misses = misses; faults = faults; calls = calls }
+
+pub record Answered (asked : Asked) (old : Held) (before : Seen) (result : Result (List ℕ) Stop) (new : Held) (after : Seen) : Type 0 where
+  -- a reply is one that the machine gives
+  pub step : IfOk result (λ reply. Answers (state old before.files) asked reply (state new after.files))
+  -- it says "absent" only where a miss was counted
+  pub absent : IfOk result (λ reply. IsTrue (is_absent reply) → Rose before.misses after.misses)
+  pub misses : before.misses ≤ after.misses
+  pub faults : before.faults ≤ after.faults
+  -- the folder is blamed only where it failed, by what names a file, and then no file is touched but one that is kept
+  pub failed : IsErrOf result File → Rose before.faults after.faults
+  pub names : IsErrOf result File → IsTrue (names_file asked)
+  pub left : IsErrOf result File → FilesStay (kept_file asked) before.files after.files
+  pub no_memory : IsErrOf result NoMemory → after.files ≡ before.files
+  -- no call failed but the last, where the folder is blamed
+  pub ended : Ended (is_err_at is_file_stop result) before.calls after.calls

@@ -1,0 +1,30 @@
+//! For tests: a run of a script over memory, and files put together from pieces.
+use super::*;
+use am_outside::{MemoryFolder, MemorySink, MemorySource};
+use std::test::Fail;
+
+/// How a run of the script over these files ends, and what it writes.
+pub fn outcome(
+    alloc: Global,
+    mut files: MemoryFolder,
+    script: Vec<u8>,
+) -> Result<(Status, MemorySink), Fail> {
+    let mut run_alone = Text::new(alloc);
+    run_alone.push_str("run")?;
+    let mut input = MemorySource::new(script, 4096, Vec::new(alloc));
+    let mut out = MemorySink::new(alloc, Vec::new(alloc));
+    let status = run(alloc, &[run_alone], &mut input, &mut files, &mut out);
+    Ok((status, out))
+}
+
+/// These pieces, in hexadecimal, each so many times.
+pub fn joined(alloc: Global, pieces: &[(&str, u32)]) -> Result<Vec<u8>, Fail> {
+    let mut bytes = Vec::new(alloc);
+    for (digits, times) in pieces {
+        let piece = hex::decode(alloc, *digits)?;
+        for _ in 0..*times {
+            bytes.extend_from_slice(&piece)?;
+        }
+    }
+    Ok(bytes)
+}

@@ -1,0 +1,99 @@
+//! Notes by three authors: a text of 2,000 letters, deletions, marks, a counter, a timestamp and a float.
+use super::memory::{joined, outcome};
+use super::*;
+use am_outside::MemoryFolder;
+use std::test::Fail;
+
+// The first writes notes; the second and the third change them at the same time.
+const FIRST: [(&str, u32); 5] = [
+    ("856f4a83f8e8746a019c110010", 1),
+    ("11", 16),
+    (
+        "010180d095ffbc31056669727374000a010b020d1107130e152d3406420b560f57e80f7003000204000001d00f00000100027f0203030001d00f0700010008cf0f00000100027f0000047e0008ce0f0100017e057469746c65056974656d7300017c046e616d6505636f756e7402617404626f647900d00f7f05726174696f020104d00f017d01020003017f04d10f017f5602007c46186900d00f167f85014e6f7465736d696c6b0280d095ffbc31",
+        1,
+    ),
+    ("6162636465666768696a", 200),
+    ("000000000000f83fd80f00", 1),
+];
+
+const SECOND: [(&str, u32); 5] = [
+    (
+        "856f4a8308bdbf2101a40101f8e8746a59e2c61250a8bf27bb936187fdd4aa3807c5f07ae5db7e63e5f7784c10",
+        1,
+    ),
+    ("22", 16),
+    ("01d90f00000110", 1),
+    ("11", 16),
+    (
+        "0c0104020611041306150f340142055606570970027102730600010b0100017f030a0700020a0100027f0809017e057469746c6505636f756e74000a0c7e01050a037e8601140a0053686f7070696e67030c010c017d0104030901",
+        1,
+    ),
+];
+
+const THIRD: [(&str, u32); 5] = [
+    (
+        "856f4a8387ca241901a70101f8e8746a59e2c61250a8bf27bb936187fdd4aa3807c5f07ae5db7e63e5f7784c10",
+        1,
+    ),
+    ("33", 16),
+    ("01d90f00000110", 1),
+    ("11", 16),
+    (
+        "0e010402041104130515093402420456045706700471027302940103a5010a00010201000102070001020100017e110a7f057469746c65000201027f0102077d6602004e6f746573217f0102007f017f0101010100017f04626f6c640001",
+        1,
+    ),
+];
+
+// The text of the notes with so many times ten letters, this count and this title.
+fn text_of(alloc: Global, tens: u32, count: u32, title: &str) -> Result<String, Fail> {
+    let mut text = String::new(alloc);
+    text.push_str("{\"body\":\"")?;
+    for _ in 0..tens {
+        text.push_str("abcdefghij")?;
+    }
+    let rest = format!(in alloc;
+        "\",\"items\":[{{\"at\":{{\"$time\":1700000000000}},\"count\":{count},\"name\":\"milk\"}}],\"ratio\":{{\"$float\":\"000000000000f83f\"}},\"title\":\"{title}\"}}\n"
+    )?;
+    text.push_str(rest.as_str())?;
+    Ok(text)
+}
+
+#[test]
+fn notes_are_read_at_their_heads(rt: HostRuntime) -> Result<(), Fail> {
+    let alloc = rt.alloc();
+    // The hash at which the notes are read, and what stands there.
+    let table: [(&str, u32, u32, &str); 3] = [
+        ("", 199, 5, "Notes!"),
+        (
+            " f8e8746a59e2c61250a8bf27bb936187fdd4aa3807c5f07ae5db7e63e5f7784c",
+            200,
+            2,
+            "Notes",
+        ),
+        (
+            " 08bdbf21c97ed5e49af5cf216a0b8a850b1d43b73ef6ec30cd13db0baf764fbd",
+            199,
+            5,
+            "Shopping",
+        ),
+    ];
+    for (hash, tens, count, title) in table {
+        let mut files = MemoryFolder::new(alloc, Vec::new(alloc));
+        files.put_file("first", &joined(alloc, &FIRST)?)?;
+        files.put_file("second", &joined(alloc, &SECOND)?)?;
+        files.put_file("third", &joined(alloc, &THIRD)?)?;
+        let script = format!(in alloc; "apply third\napply first\napply second\nshow{hash}\n")?;
+        let (status, out) = outcome(alloc, files, script.as_bytes().to_vec(alloc)?)?;
+        let text = text_of(alloc, tens, count, title)?;
+        let replies = format!(in alloc;
+            "ok added 0 waiting 1 rejected 0\nok added 2 waiting 0 rejected 0\nok added 1 waiting 0 rejected 0\n{text}"
+        )?;
+        assert_eq!(rt; status, Status::Done);
+        assert_eq!(rt;
+            std::str::from_utf8(out.bytes())?,
+            replies.as_str(),
+            "at {title}"
+        );
+    }
+    Ok(())
+}
