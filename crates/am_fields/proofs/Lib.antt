@@ -16,3 +16,4 @@ pub mod WriteLaws
 pub mod AboveLaws
 pub mod CanonicalLaws
 pub mod Spelled
+pub mod ListPlaces

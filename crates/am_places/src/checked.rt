@@ -144,7 +144,8 @@ fn is_sound(alloc: Global, operations: &[Numbered<'_>]) -> Result<bool, AllocErr
     Ok(are_anchored(elements.as_slice()))
 }
 
-/// The operations of the changes in ascending id, or None where they can't be read, as those of a valid set can.
+/// The operations of the changes in ascending id, where a test of them finds that they can be read, as those of a valid
+/// set can. No clause says that it finds so: it serves tests, which can't prove that their changes are a valid set.
 pub fn checked_operations<'a>(
     alloc: Global,
     changes: &'a [Change],
