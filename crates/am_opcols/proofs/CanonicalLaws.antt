@@ -1,20 +1,17 @@
 -- What fine operations hold may be written.
 use Rattle.std.proofs.Common.{◌≡◌, ℕ, ◌+◌, ◌≤◌, ◌^◌, List, [], ◌∷◌, ◌++◌, length, map, refl, sym, ap, ◌∙◌, arith, subst}
-use Rattle.std.specs.Prelude.{All, ◌<◌}
+use Rattle.std.specs.Prelude.{All}
 use Rattle.std.specs.List.{AllByRecursion}
 use Rattle.std.proofs.lemmas.List.{length-append, length-map}
 use Rattle.std.proofs.lemmas.List.Elements.{All-head, All-tail, recursion_from_All}
 use Rattle.am_types.specs.declared.Op.{Op}
 use Rattle.am_types.specs.Fine.{IsId, IsKey, FineOp, pred_count}
-use Rattle.am_colmeta.specs.Metadata.{listing, Ascend}
 use Rattle.am_delta.specs.Deltas.{AreMiddling}
 use Rattle.am_values.specs.Columns.{AllGood}
-use Rattle.am_fields.specs.Columns.{spellings}
 use Rattle.am_fields.specs.Held.{FieldsFit, IdsFit}
 use Rattle.am_fields.specs.Layout.{key_counter, id_counter, flat}
 use Rattle.am_fields.proofs.CanonicalLaws as fields
 use Rattle.am_fields.proofs.Lists.{all-append}
-use Rattle.am_opcols.specs.Columns.{op_columns}
 use Rattle.am_opcols.specs.Writing.{op_lists}
 use Rattle.am_opcols.proofs.WriteLaws.{pred_count-cons}
 
@@ -53,6 +50,3 @@ fields_fit ops all few = record {
 
 pub preds_fit : (ops : List Op) → All FineOp ops → pred_count ops ≤ 2 ^ 22 → IdsFit (flat (map (λ o. o.preds) ops))
 preds_fit ops all few = record { counters = preds_middling ops all; few = omega (arith, length-preds ops) }
-
-pub ascending : (actors : List (List ℕ)) (ops : List Op) → Ascend (listing (spellings actors (op_columns ops)))
-ascending actors ops = (omega arith, (omega arith, (omega arith, (omega arith, (omega arith, (omega arith, (omega arith, (omega arith, (omega arith, (omega arith, (omega arith, (omega arith, (omega arith, tt)))))))))))))
