@@ -1,0 +1,21 @@
+use Rattle.std.proofs.Common.{sym, subst, take, arith}
+use Rattle.am_colmeta.specs.Metadata.{metadata, listing, body}
+use Rattle.am_doccols.specs.Columns.{written_rows}
+use Rattle.am_doccols.specs.Conditions.{HasRoom}
+use Rattle.am_fields.proofs.WriteLaws.{held}
+use Rattle.am_doc.proofs.Rooms.{row_room, at_end}
+use Rattle.am_doc.proofs.Writers.{row_ready, text_is}
+use Rattle.am_doc.proofs.columns.rows_text.Goals as goal
+
+pub push-requires-clause-row : goal.push-requires-clause-row
+push-requires-clause-row c = row_ready c.loop-row.writer.0 c.args.actors.now c.args.rows.now c.loop-row.row-index c.row-item.result c.fields_of.result c.as_slice.result.now c.loop-row-test.true c.row-item.is c.requires.all c.loop-row.invariant.0 c.as_slice.ensures c.fields_of.ensures
+
+pub push-requires-clause-room : goal.push-requires-clause-room
+push-requires-clause-room c = held c.loop-row.writer.1 (take c.loop-row.row-index c.args.rows.now) (λ rows. HasRoom rows c.as_slice.result.now) c.loop-row.invariant.1
+    (subst (λ s. HasRoom (take c.loop-row.row-index c.args.rows.now) s) (sym c.as_slice.ensures) (row_room c.args.rows.now c.loop-row.row-index c.row-item.result c.loop-row-test.true c.row-item.is c.requires.few c.requires.few_succs))
+
+pub returns-clause-metadata : goal.returns-clause-metadata
+returns-clause-metadata c = text_is (λ t. t.0) (λ a rows. metadata (listing (written_rows a rows))) c.loop-row.writer.0 c.args.actors.now c.loop-row.writer.1 c.args.rows.now c.finish.result c.loop-row.invariant.0 (at_end c.loop-row.row-index c.args.rows.now c.loop-row.writer.1 (omega (arith, c.loop-row-test.false)) c.loop-row.invariant.1) c.finish.ensures.metadata
+
+pub returns-clause-body : goal.returns-clause-body
+returns-clause-body c = text_is (λ t. t.1) (λ a rows. body (written_rows a rows)) c.loop-row.writer.0 c.args.actors.now c.loop-row.writer.1 c.args.rows.now c.finish.result c.loop-row.invariant.0 (at_end c.loop-row.row-index c.args.rows.now c.loop-row.writer.1 (omega (arith, c.loop-row-test.false)) c.loop-row.invariant.1) c.finish.ensures.body
