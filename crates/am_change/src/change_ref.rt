@@ -7,8 +7,8 @@ use crate::fault::ChangeFault;
 use crate::fine_parts::are_fine;
 use crate::front::FrontRef;
 use crate::hash_list::HashList;
-use crate::parse::{length_known, opened};
-use am_opcols::{OpCursor, are_canonical};
+use crate::parse::{is_canonical, length_known, opened};
+use am_opcols::OpCursor;
 use am_types::Change;
 use std::alloc::{AllocError, Global};
 use std::marker::Model;
@@ -61,7 +61,7 @@ impl<'a> ChangeRef<'a> {
         if !are_fine(&front, behind.message, &behind.ops, behind.extra) {
             return Err(ChangeFault::BadChange);
         }
-        if !are_canonical(&behind.columns, front.actor, &front.others, &behind.ops) {
+        if !is_canonical(&front, &behind) {
             return Err(ChangeFault::BadChange);
         }
         Ok(ChangeRef {

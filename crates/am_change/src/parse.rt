@@ -1,10 +1,11 @@
 //! Reading a change back from the contents of its chunk.
-ghost use Rattle.std.specs.Prelude.{◌≡◌, ◌<◌, ◌≤◌, ◌^◌, ◌*◌, ◌++◌, ◌∷◌, ◌⊎◌, length, IfSome, IsSomeAnd};
+ghost use Rattle.std.specs.Prelude.{◌≡◌, ◌<◌, ◌≤◌, ◌^◌, ◌*◌, ◌++◌, ◌∷◌, ◌⊎◌, ◌↔◌, length, IsTrue, IfSome, IsSomeAnd};
 ghost use Rattle.am_types.specs.declared.Change.{Change};
 ghost use Rattle.am_types.specs.Fine.{Fine};
 ghost use Rattle.am_colmeta.specs.Metadata.{listing, body, Ascend};
 ghost use Rattle.am_colmeta.specs.Judgement.{AreKnown};
 ghost use Rattle.am_opcols.specs.Columns.{op_specifications, SpellsOps};
+ghost use Rattle.am_opcols.specs.Others.{others as others_of};
 ghost use Rattle.am_opcols.specs.Writing.{written_columns};
 ghost use Rattle.am_change.specs.Contents.{contents};
 ghost use Rattle.am_change.specs.Fronts.{front as front_in};
@@ -15,7 +16,7 @@ use crate::change_ref::ChangeRef;
 use crate::fault::ChangeFault;
 use crate::front::FrontRef;
 use am_colmeta::Columns;
-use am_opcols::OpCursor;
+use am_opcols::{OpCursor, are_canonical};
 use am_types::Change;
 use std::alloc::Global;
 use std::str::from_utf8;
@@ -69,6 +70,16 @@ pub fn opened<'a>(front: &FrontRef<'a>, rest: &'a [u8]) -> Option<Behind<'a>>
         message,
         extra,
     })
+}
+
+// Whether the columns and the other actors are just those that a writer of the operations leaves.
+pub fn is_canonical(front: &FrontRef<'_>, behind: &Behind<'_>) -> bool
+    requires spelled { SpellsOps (front.now.actor.now ∷ front.now.others) behind.now.columns behind.now.ops }
+    requires ascend { Ascend (listing behind.now.columns) }
+    requires known { AreKnown op_specifications (listing behind.now.columns) }
+    ensures { IsTrue result ↔ ((front.now.others ≡ others_of front.now.actor.now behind.now.ops) × (behind.now.columns ≡ written_columns front.now.actor.now behind.now.ops)) }
+{
+    are_canonical(&behind.columns, front.actor, &front.others, &behind.ops)
 }
 
 // The length of a slice fits 64 bits.

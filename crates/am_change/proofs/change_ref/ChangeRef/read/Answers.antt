@@ -36,13 +36,13 @@ returns-then-not-are_fine-clause-judged c =
     let same : change_with (front_of c.in-Some.front) behind.ops behind.extra.now ≡ d = same_change (front_of c.in-Some.front) behind.ops behind.extra.now d e got.0 got.1 in
     absurd (cc (c.if-not-are_fine.ensures.1 (subst Fine (sym same) fine))))
 
-pub returns-then-not-are_canonical-clause-judged : goal.returns-then-not-are_canonical-clause-judged
-returns-then-not-are_canonical-clause-judged c =
+pub returns-then-not-is_canonical-clause-judged : goal.returns-then-not-is_canonical-clause-judged
+returns-then-not-is_canonical-clause-judged c =
     let behind = c.in-Some-opened.behind in
     no_change c.args.contents.now (front_of c.in-Some.front) c.in-Some.rest.now c.length_known.ensures c.in-Some.ensures.some.0 c.in-Some.ensures.some.1 (λ h. absurd (cc (c.if-compressed.ensures.some.1 h)))
     (λ d fine s e r b.
     let got = c.in-Some-opened.ensures.only d fine s e r in
-    absurd (cc (c.if-not-are_canonical.ensures.1 (canonical_as (front_of c.in-Some.front) behind.columns behind.ops d e got.0 got.2))))
+    absurd (cc (c.if-not-is_canonical.ensures.1 (canonical_as (front_of c.in-Some.front) behind.columns behind.ops d e got.0 got.2))))
 
 pub invariant_of-result : goal.invariant_of-result
 invariant_of-result c =
@@ -52,5 +52,5 @@ invariant_of-result c =
 pub returns-clause-judged : goal.returns-clause-judged
 returns-clause-judged c =
     let behind = c.in-Some-opened.behind in
-    let canonical = c.if-not-are_canonical.ensures.0 refl in
+    let canonical = c.if-not-is_canonical.ensures.0 refl in
     (c.if-not-are_fine.ensures.0 refl, own_contents c.args.contents.now c.in-Some.rest.now (front_of c.in-Some.front) behind.columns behind.ops behind.extra.now c.in-Some.ensures.some.1 c.in-Some-opened.ensures.joined c.in-Some-opened.ensures.listed canonical.0 canonical.1)
