@@ -1,18 +1,18 @@
 -- What a delivery adds to the map of the waiting changes.
-use Rattle.std.proofs.Common.{arith, length, get_or, All, ◌≡◌, List, [], ◌∷◌, ◌++◌, true, false, Option, Some, None, option_map, refl, sym, ap, ◌∙◌, subst, inl, inr, IsPermutation}
+use Rattle.std.proofs.Common.{arith, length, get_or, All, ◌≡◌, Bool, List, [], ◌∷◌, ◌++◌, true, false, Option, Some, None, option_map, refl, sym, ap, ◌∙◌, subst, inl, inr, IsPermutation}
 use Rattle.std.specs.Option.{option_or}
 use Rattle.std.specs.BTreeMap.{BTreeMap, get, is_at, insert_entry}
 use Rattle.std.specs.Map.{lookup}
 use Rattle.std.specs.Ordering.{is_eq, match_ordering}
 use Rattle.std.specs.declared.cmp.Ordering.{Ordering}
 use Rattle.std.specs.declared.cmp.Ordering.TheVariants.{Less, Equal, Greater}
-use Rattle.std.proofs.lemmas.Bool.{cases_Bool}
+use Rattle.std.proofs.lemmas.Bool.{cases_Bool, or_parts}
 use Rattle.std.proofs.lemmas.List.Folds.{find-append}
 use Rattle.std.proofs.lemmas.List.Sorted.{IsPermutation-refl, IsPermutation-trans, IsPermutation-cons, IsPermutation-to_front, IsPermutation-swap, IsPermutation-map}
 use Rattle.am_types.specs.declared.Hash.{Hash}
 use Rattle.am_types.specs.declared.Change.{Change}
 use Rattle.am_types.specs.Order.{hash_cmp, same}
-use Rattle.am_types.specs.Members.{Member, member}
+use Rattle.am_types.specs.Members.{Member, member, holds}
 use Rattle.am_types.specs.Deliver.{Sets, Alike, MayCome, receive, receive_by}
 use Rattle.am_types.specs.declared.Rejected.{Rejected}
 use Rattle.am_types.specs.declared.Why.TheVariants as reasons
@@ -76,60 +76,72 @@ receive-append s (m ∷ L) M = receive-append (receive_by (member (s.closed ++ s
 abbrev pub change_of : Member → Change
 change_of m = m.change
 
-pub in_first : (o p : Option Member) (c : Change) → Some c ≡ option_map change_of o → Some c ≡ option_map change_of (option_or o p)
-in_first None p c e = absurd (no_such c e)
-in_first (Some m) p c e = e
+-- whether the change of the member is equal to c
+abbrev pub equals : Change → Member → Bool
+equals c m = same_change m.change c
 
-pub in_second : (o p : Option Member) (r : Option Change) → None ≡ option_map change_of o → r ≡ option_map change_of p → r ≡ option_map change_of (option_or o p)
-in_second None p r n e = e
-in_second (Some m) p r n e = absurd (no_such m.change (sym n))
+pub none_member : (C : List Member) (h : Hash) → holds C h ≡ false → member C h ≡ None
+none_member [] h f = refl
+none_member (m ∷ C) h f =
+    let p = or_parts (same hash_cmp h m.hash) (holds C h) f in
+    let again : member C h ≡ None = none_member C h p.1 in
+    simp p.0 again
 
-pub is_none : (o : Option Member) → None ≡ option_map change_of o → o ≡ None
-is_none None e = refl
-is_none (Some m) e = absurd (no_such m.change (sym e))
+pub in_first : (o p : Option Member) (c : Change) (b : Bool) → option_map (equals c) o ≡ Some b → Some b ≡ option_map (equals c) (option_or o p)
+in_first None p c b e = absurd (no_such b (sym e))
+in_first (Some m) p c b e = sym e
+
+pub in_second : (o p : Option Member) (c : Change) (r : Option Change) → o ≡ None → r ≡ option_map change_of p → option_map (λ d. same_change d c) r ≡ option_map (equals c) (option_or o p)
+in_second None None c r n e = ap (option_map (λ (d : Change). same_change d c)) e
+in_second None (Some m) c r n e = ap (option_map (λ (d : Change). same_change d c)) e
+in_second (Some m) p c r n e = absurd (no_such m n)
+
+is_none : (c : Change) (o : Option Member) → None ≡ option_map (equals c) o → o ≡ None
+is_none c None e = refl
+is_none c (Some m) e = absurd (no_such (equals c m) (sym e))
 
 none_second : (o p : Option Member) → option_or o p ≡ None → p ≡ None
 none_second None p e = e
 none_second (Some m) p e = absurd (no_such m e)
 
-pub some_is : (o : Option Member) (c : Change) → Some c ≡ option_map change_of o → (m : Member) × (o ≡ Some m) × (m.change ≡ c)
-some_is None c e = absurd (no_such c e)
-some_is (Some m) c e = let f : m.change ≡ c = cc in (m, refl, f)
+some_is : (c : Change) (o : Option Member) (b : Bool) → Some b ≡ option_map (equals c) o → (m : Member) × (o ≡ Some m) × (equals c m ≡ b)
+some_is c None b e = absurd (no_such b e)
+some_is c (Some m) b e = let f : equals c m ≡ b = cc in (m, refl, f)
 
 -- ---- one change
 
 pub alike_new : (C : List Member) (w v : BTreeMap Hash Change) (R : List Rejected) (h : Hash) (c : Change)
-    → None ≡ option_map change_of (member (C ++ waiting_of w) h) → v.entries ≡ insert_entry hash_cmp w.entries h c
+    → None ≡ option_map (equals c) (member (C ++ waiting_of w) h) → v.entries ≡ insert_entry hash_cmp w.entries h c
     → Alike (receive (record { closed = C; waiting = waiting_of w; rejected = R }) (record { hash = h; change = c } ∷ [])) (record { closed = C; waiting = waiting_of v; rejected = R })
 alike_new C w v R h c none e =
     let m : Member = record { hash = h; change = c } in
     let s : Sets = record { closed = C; waiting = waiting_of w; rejected = R } in
     let t : Sets = record { closed = C; waiting = waiting_of v; rejected = R } in
-    let absent : member (C ++ waiting_of w) h ≡ None = is_none (member (C ++ waiting_of w) h) none in
+    let absent : member (C ++ waiting_of w) h ≡ None = is_none c (member (C ++ waiting_of w) h) none in
     let alone : member (waiting_of w) h ≡ None = none_second (member C h) (member (waiting_of w) h) (sym (both C (waiting_of w) h) ∙ absent) in
     let unlisted : get hash_cmp w h ≡ None = looked_up w.entries h ∙ ap (option_map change_of) alone in
     let grown : Alike (receive_by None m s) t = record { closed = IsPermutation-refl C; waiting = joined_waiting h c w v unlisted e; rejected = refl } in
     subst (λ o. Alike (receive_by o m s) t) (sym absent) grown
 
-module _ (C W : List Member) (m : Member) (c : Change) (some : Some c ≡ option_map change_of (member (C ++ W) m.hash)) where
-  abbrev found : (n : Member) × (member (C ++ W) m.hash ≡ Some n) × (n.change ≡ c)
-  found = some_is (member (C ++ W) m.hash) c some
+module _ (C W : List Member) (m : Member) (b : Bool) (some : Some b ≡ option_map (equals m.change) (member (C ++ W) m.hash)) where
+  abbrev found : (n : Member) × (member (C ++ W) m.hash ≡ Some n) × (equals m.change n ≡ b)
+  found = some_is m.change (member (C ++ W) m.hash) b some
 
   received : (R : List Rejected) (t : Sets) → Alike (receive_by (Some found.0) m (record { closed = C; waiting = W; rejected = R })) t → Alike (receive (record { closed = C; waiting = W; rejected = R }) (m ∷ [])) t
   received R t a = subst (λ o. Alike (receive_by o m (record { closed = C; waiting = W; rejected = R })) t) (sym found.1) a
 
-  pub alike_same : (R : List Rejected) → same_change c m.change ≡ true → Alike (receive (record { closed = C; waiting = W; rejected = R }) (m ∷ [])) (record { closed = C; waiting = W; rejected = R })
+  pub alike_same : (R : List Rejected) → b ≡ true → Alike (receive (record { closed = C; waiting = W; rejected = R }) (m ∷ [])) (record { closed = C; waiting = W; rejected = R })
   alike_same R t =
-      let test : same_change found.0.change m.change ≡ true = ap (λ x. same_change x m.change) found.2 ∙ t in
+      let test : same_change found.0.change m.change ≡ true = found.2 ∙ t in
       received R (record { closed = C; waiting = W; rejected = R }) (simp test (alike_itself (record { closed = C; waiting = W; rejected = R })))
     where
       alike_itself : (s : Sets) → Alike s s
       alike_itself s = record { closed = IsPermutation-refl s.closed; waiting = IsPermutation-refl s.waiting; rejected = refl }
 
-  pub alike_clash : (R Q : List Rejected) → same_change c m.change ≡ false → Q ≡ R ++ record { hash = m.hash; why = reasons.HashClash } ∷ []
+  pub alike_clash : (R Q : List Rejected) → b ≡ false → Q ≡ R ++ record { hash = m.hash; why = reasons.HashClash } ∷ []
       → Alike (receive (record { closed = C; waiting = W; rejected = R }) (m ∷ [])) (record { closed = C; waiting = W; rejected = Q })
   alike_clash R Q f q =
-      let test : same_change found.0.change m.change ≡ false = ap (λ x. same_change x m.change) found.2 ∙ f in
+      let test : same_change found.0.change m.change ≡ false = found.2 ∙ f in
       received R (record { closed = C; waiting = W; rejected = Q }) (simp test (record { closed = IsPermutation-refl C; waiting = IsPermutation-refl W; rejected = sym q }))
 
 -- ---- one more

@@ -19,11 +19,6 @@ use Rattle.am_delivery.proofs.Tracking.{deps_apart, enters_tracks}
 use Rattle.am_delivery.proofs.Entering.{absent, enters}
 use Rattle.am_delivery.proofs.Steps.{distinct}
 
-pub has_member : (C : List Member) (h : Hash) (m : Member) → member C h ≡ Some m → holds C h ≡ true
-has_member C h m e =
-    let f = found_is (λ (n : Member). same hash_cmp h n.hash) C m e in
-    subst (λ g. holds C g ≡ true) (sym (same_hash-true h m.hash f.1)) (holds_it C m f.0)
-
 -- a set's test as membership
 module _ (old new : BTreeSet Hash) (h : Hash) (n : ℕ) (says : (g : Hash) → contains hash_cmp new g ≡ (contains hash_cmp old g || same hash_cmp h g && n == 0)) where
   pub told : (g : Hash) → Contains new.keys g ↔ (Contains old.keys g ⊎ ((g ≡ h) × (n ≡ 0)))

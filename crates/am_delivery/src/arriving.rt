@@ -1,6 +1,5 @@
 //! The changes of a delivery join the waiting ones, unless their hashes are held.
-ghost use Rattle.std.specs.Prelude.{◌≡◌, ◌++◌, ◌∷◌, [], All, OnOk, option_map, vec_items};
-ghost use Rattle.std.specs.Option.{option_copied};
+ghost use Rattle.std.specs.Prelude.{◌≡◌, ◌++◌, ◌∷◌, [], All, IfOk, OnOk, option_map, vec_items};
 ghost use Rattle.am_types.specs.Members.{member};
 ghost use Rattle.am_types.specs.Same.{same_change};
 ghost use Rattle.am_types.specs.Deliver.{Sets, MayCome, AreStored, Alike, receive};
@@ -8,33 +7,40 @@ ghost use Rattle.am_delivery.specs.Waiting.{members_of, waiting_of};
 
 use crate::closed::Closed;
 use am_types::{Change, Hash, Rejected, Why};
-use std::alloc::AllocError;
+use std::alloc::{AllocError, Global};
 use std::collections::BTreeMap;
 
 /// Whether two changes are equal.
-fn is_same(held: &Change, change: &Change) -> bool
+pub fn is_same(held: &Change, change: &Change) -> bool
     ensures { result ≡ same_change held.now change.now }
 {
     held == change
 }
 
-/// The change with this hash that is closed or waits.
-fn known<'a, S: Closed>(
-    closed: &'a S,
-    waiting: &'a BTreeMap<Hash, Change>,
+/// Whether the change with this hash that is closed or waits is equal to that one, or None where there is none.
+fn compared<S: Closed>(
+    alloc: Global,
+    closed: &S,
+    waiting: &BTreeMap<Hash, Change>,
     hash: &Hash,
-) -> Option<&'a Change>
-    ensures { option_copied result ≡ option_map (λ m. m.change) (member (S.members closed.now ++ waiting_of waiting.now) hash.now) }
+    change: &Change,
+) -> Result<Option<bool>, AllocError>
+    ensures { IfOk result (λ same. same ≡ option_map (λ m. same_change m.change change.now) (member (S.members closed.now ++ waiting_of waiting.now) hash.now)) }
 {
-    match closed.held(hash) {
-        Some(change) => Some(change),
-        None => waiting.get(hash),
+    if closed.holds(hash) {
+        let same = closed.is_same(alloc, hash, change)?;
+        return Ok(Some(same));
+    }
+    match waiting.get(hash) {
+        Some(held) => Ok(Some(is_same(held, change))),
+        None => Ok(None),
     }
 }
 
 /// A change that is held is skipped, one whose hash another change has is rejected, and any other joins the waiting
 /// ones.
 fn receive_one<S: Closed>(
+    alloc: Global,
     closed: &S,
     waiting: &mut BTreeMap<Hash, Change>,
     rejected: &mut Vec<Rejected>,
@@ -45,22 +51,25 @@ fn receive_one<S: Closed>(
         let new : Sets = record { closed = S.members closed.now; waiting = waiting_of waiting.new; rejected = vec_items rejected.new } in
         OnOk result (Alike (receive old (record { hash = hash; change = change } ∷ [])) new) }
 {
-    let Some(held) = known(closed, waiting, &hash) else {
-        waiting.insert(hash, change)?;
-        return Ok(());
-    };
-    if is_same(held, &change) {
-        return Ok(());
+    match compared(alloc, closed, waiting, &hash, &change)? {
+        Some(true) => Ok(()),
+        Some(false) => {
+            rejected.push(Rejected {
+                hash,
+                why: Why::HashClash,
+            })?;
+            Ok(())
+        }
+        None => {
+            waiting.insert(hash, change)?;
+            Ok(())
+        }
     }
-    rejected.push(Rejected {
-        hash,
-        why: Why::HashClash,
-    })?;
-    Ok(())
 }
 
 /// The same for each of these changes in turn.
 pub fn receive_all<S: Closed>(
+    alloc: Global,
     closed: &S,
     waiting: &mut BTreeMap<Hash, Change>,
     rejected: &mut Vec<Rejected>,
@@ -73,7 +82,7 @@ pub fn receive_all<S: Closed>(
         OnOk result (Alike (receive old (members_of (vec_items changes))) new) }
 {
     for (hash, change) in changes {
-        receive_one(closed, waiting, rejected, hash, change)?;
+        receive_one(alloc, closed, waiting, rejected, hash, change)?;
     }
     Ok(())
 }

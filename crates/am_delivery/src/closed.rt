@@ -1,7 +1,7 @@
 //! A closed set of changes that can grow.
-ghost use Rattle.std.specs.Prelude.{◌≡◌, ◌++◌, ◌∷◌, [], List, IfOk, OnOk, IsTrue, option_map};
-ghost use Rattle.std.specs.Option.{option_copied};
-ghost use Rattle.am_types.specs.Members.{Member, member, holds_deps};
+ghost use Rattle.std.specs.Prelude.{◌≡◌, ◌++◌, ◌∷◌, [], List, IfOk, OnOk, IsTrue, Some, option_map};
+ghost use Rattle.am_types.specs.Members.{Member, member, holds, holds_deps};
+ghost use Rattle.am_types.specs.Same.{same_change};
 ghost use Rattle.am_types.specs.Fine.{Fine};
 ghost use Rattle.am_types.specs.Verdicts.{verdict};
 ghost use Rattle.am_types.specs.ValidSets.{Valid, Joins};
@@ -16,9 +16,14 @@ pub trait Closed {
     // What stays as it is while changes join.
     ghost base: { Self → List Member };
 
-    /// The change with this hash, where it is held.
-    fn held(&self, hash: &Hash) -> Option<&Change>
-        ensures { option_copied result ≡ option_map (λ m. m.change) (member (members self.now) hash.now) };
+    /// Whether a change has this hash.
+    fn holds(&self, hash: &Hash) -> bool
+        ensures { result ≡ holds (members self.now) hash.now };
+
+    /// Whether the change that has this hash is equal to that one.
+    fn is_same(&self, alloc: Global, hash: &Hash, change: &Change) -> Result<bool, AllocError>
+        requires held { IsTrue (holds (members self.now) hash.now) }
+        ensures same { IfOk result (λ same. option_map (λ m. same_change m.change change.now) (member (members self.now) hash.now) ≡ Some same) };
 
     /// Whether a change fits, or the first reason why it doesn't.
     fn judge(&self, alloc: Global, change: &Change) -> Result<Verdict, AllocError>

@@ -14,23 +14,13 @@ use am_types::{Change, Hash, List, Rejected};
 use std::alloc::{AllocError, Global};
 use std::collections::BTreeMap;
 
-/// Whether no closed change has this hash.
-fn lacks<S: Closed>(closed: &S, hash: &Hash) -> bool
-    ensures { result ≡ not (holds (S.members closed.now) hash.now) }
-{
-    match closed.held(hash) {
-        Some(_) => false,
-        None => true,
-    }
-}
-
 /// Those of these hashes that no closed change has.
 fn lacking<S: Closed>(alloc: Global, closed: &S, deps: &[Hash]) -> Result<Vec<Hash>, AllocError>
     ensures { IfOk result (λ found. vec_items found ≡ filter (λ h. not (holds (S.members closed.now) h)) deps.now) }
 {
     let mut found = Vec::new(alloc);
     for dep in deps {
-        if lacks(closed, dep) {
+        if !closed.holds(dep) {
             found.push(*dep)?;
         }
     }
@@ -74,7 +64,7 @@ pub fn deliver<S: Closed>(
     ensures base { OnOk result (S.base closed.new ≡ S.base closed.old) }
 {
     let mut rejected = Vec::new(alloc);
-    receive_all(closed, waiting, &mut rejected, changes)?;
+    receive_all(alloc, closed, waiting, &mut rejected, changes)?;
     let mut pending = enter_all(alloc, closed, waiting)?;
     settle_all(alloc, closed, waiting, &mut pending, &mut rejected)?;
     Ok(List::from(rejected))

@@ -8,6 +8,7 @@ mod delivering;
 mod laws;
 mod pending;
 
+pub use arriving::is_same;
 pub use closed::Closed;
 pub use delivering::deliver;
 pub use laws::{

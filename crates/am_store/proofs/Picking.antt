@@ -13,6 +13,7 @@ use Rattle.am_types.specs.declared.Hash.{Hash}
 use Rattle.am_types.specs.declared.Change.{Change}
 use Rattle.am_types.specs.Order.{hash_cmp, same, among, sorted_by, Ascends}
 use Rattle.am_types.specs.Members.{Member, hashes, changes, member, holds}
+use Rattle.am_types.specs.Same.{same_change}
 use Rattle.am_types.specs.Ancestors.{ancestors}
 use Rattle.am_types.specs.Canonical.{canonical_cmp, order}
 use Rattle.am_types.specs.ValidSets.{Valid}
@@ -43,6 +44,17 @@ place_within es place l = let n = length-map es member_of in omega arith
 pub entry_found : (es : List (Hash × Change)) (h : Hash) (place : ℕ) (d : Hash × Change) → place < length (members_of es) → member (members_of es) h ≡ slice_get (members_of es) place → found (members_of es) h ≡ Some (get_or es place d).1
 entry_found es h place d l e =
     ap (option_map change_of) (e ∙ slice_get-map member_of es place ∙ ap (option_map member_of) (slice_get-get_or es place d (place_within es place l)))
+
+pub entry_is : (es : List (Hash × Change)) (h : Hash) (place : ℕ) (e : Hash × Change) → member (members_of es) h ≡ slice_get (members_of es) place → slice_get es place ≡ Some e → found (members_of es) h ≡ Some e.1
+entry_is es h place e at is = ap (option_map change_of) (at ∙ slice_get-map member_of es place ∙ ap (option_map member_of) is)
+
+-- a look-up tells whether the change that it gives is equal to another
+pub told_same : (es : List (Hash × Change)) (h : Hash) (c d : Change) → found (members_of es) h ≡ Some d → option_map (λ m. same_change m.change c) (member (members_of es) h) ≡ Some (same_change d c)
+told_same es h c d = told (member (members_of es) h)
+  where
+    told : (o : Option Member) → option_map change_of o ≡ Some d → option_map (λ (m : Member). same_change m.change c) o ≡ Some (same_change d c)
+    told None e = cc
+    told (Some m) e = let is : m.change ≡ d = cc in ap (λ x. Some (same_change x c)) is
 
 pub none_held : (C : List Member) (h : Hash) → member C h ≡ None → holds C h ≡ true → ⊥
 none_held C h e t = both_ways (holds C h) (absent C h e) t

@@ -1,11 +1,13 @@
 //! The closed set of a store while a delivery lets it grow.
-ghost use Rattle.std.specs.Prelude.{◌≡◌, ◌<◌, ◌++◌, ◌∷◌, [], List, Some, OnOk, length, slice_get};
-ghost use Rattle.am_types.specs.Members.{Member};
+ghost use Rattle.std.specs.Prelude.{◌≡◌, ◌<◌, ◌++◌, ◌∷◌, [], List, Some, true, OnOk, length, option_map, slice_get};
+ghost use Rattle.am_types.specs.Members.{Member, member, holds};
+ghost use Rattle.am_types.specs.Same.{same_change};
+ghost use Rattle.am_graph.specs.Graphs.{nodes};
 ghost use Rattle.am_fits.specs.Indexes.{AreOf};
 ghost use Rattle.am_delivery.specs.Waiting.{members_of};
 ghost use Rattle.am_store.specs.Grown.{MayGrow};
 
-use am_delivery::Closed;
+use am_delivery::{Closed, is_same};
 use am_fits::{OpIndex, fits};
 use am_graph::Graph;
 use am_types::{Change, Hash, Verdict};
@@ -48,6 +50,24 @@ fn entry_at<'a>(
         &old[place]
     } else {
         &fresh[place - old.len()]
+    }
+}
+
+/// Whether the change with this hash is equal to that one.
+fn same_at(
+    graph: &Graph,
+    old: &[(Hash, Change)],
+    fresh: &[(Hash, Change)],
+    hash: &Hash,
+    change: &Change,
+) -> bool
+    requires of_set { graph.now ≡ nodes (members_of (old.now ++ fresh.now)) }
+    requires held { holds (members_of (old.now ++ fresh.now)) hash.now ≡ true }
+    ensures { option_map (λ m. same_change m.change change.now) (member (members_of (old.now ++ fresh.now)) hash.now) ≡ Some result }
+{
+    match graph.place(hash) {
+        Some(place) => is_same(&entry_at(old, fresh, place).1, change),
+        None => unreachable!(),
     }
 }
 
@@ -107,10 +127,13 @@ impl<'a> Closed for Growing<'a> {
 
     ghost base = { λ g. members_of g.old };
 
-    fn held(&self, hash: &Hash) -> Option<&Change> {
-        let place = self.graph.place(hash)?;
-        let entry = entry_at(self.old, self.fresh.as_slice(), place);
-        Some(&entry.1)
+    fn holds(&self, hash: &Hash) -> bool {
+        self.graph.holds(hash)
+    }
+
+    fn is_same(&self, _alloc: Global, hash: &Hash, change: &Change) -> Result<bool, AllocError> {
+        let same = same_at(&self.graph, self.old, self.fresh.as_slice(), hash, change);
+        Ok(same)
     }
 
     fn judge(&self, alloc: Global, change: &Change) -> Result<Verdict, AllocError> {
