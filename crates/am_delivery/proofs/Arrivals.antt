@@ -20,7 +20,7 @@ use Rattle.am_types.specs.Same.{same_change}
 use Rattle.std.proofs.lemmas.List.{map-append}
 use Rattle.std.proofs.lemmas.List.Elements.{All-nil, All-cons, All-contains, Contains-get_or, Contains-append_left, Contains-append_right}
 use Rattle.am_delivery.proofs.Lists.{Contains-here}
-use Rattle.am_delivery.proofs.Steady.{Steady, steady_all}
+use Rattle.am_delivery.proofs.Steady.{Steady, steady_all, absent}
 use Rattle.am_delivery.proofs.Alikeness.{receive_alike}
 use Rattle.am_delivery.specs.Waiting.{member_of, members_of, waiting_of}
 
@@ -107,6 +107,10 @@ none_second (Some m) p e = absurd (no_such m e)
 some_is : (c : Change) (o : Option Member) (b : Bool) → Some b ≡ option_map (equals c) o → (m : Member) × (o ≡ Some m) × (equals c m ≡ b)
 some_is c None b e = absurd (no_such b e)
 some_is c (Some m) b e = let f : equals c m ≡ b = cc in (m, refl, f)
+
+-- a hash that is new is none of the waiting ones
+pub is_fresh : (C W : List Member) (h : Hash) (c : Change) → None ≡ option_map (equals c) (member (C ++ W) h) → holds W h ≡ false
+is_fresh C W h c e = absent W h (none_second (member C h) (member W h) (sym (both C W h) ∙ is_none c (member (C ++ W) h) e))
 
 -- ---- one change
 

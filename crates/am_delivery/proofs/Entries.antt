@@ -1,5 +1,5 @@
 -- The waiting changes of a map enter the tracker one by one.
-use Rattle.std.proofs.Common.{ℕ, ◌≡◌, ◌↔◌, ◌⊎◌, ◌==◌, ◌&&◌, ◌||◌, List, [], ◌∷◌, ◌++◌, length, map, filter, true, false, Some, sym, ap, ◌∙◌, subst, inl, inr, Contains, BTreeSet, BTreeMap}
+use Rattle.std.proofs.Common.{ℕ, ◌≡◌, ◌↔◌, ◌⊎◌, ◌==◌, ◌&&◌, ◌||◌, List, [], ◌∷◌, ◌++◌, length, map, filter, true, false, sym, ap, ◌∙◌, subst, inl, inr, Contains, BTreeSet, BTreeMap}
 use Rattle.std.specs.BTreeMap.{IsOrdered}
 use Rattle.std.specs.BTreeSet.{contains}
 use Rattle.std.proofs.lemmas.Bool.{or_cases, and_parts, and_from, or_left, or_right, eqb-true, eq-eqb}
@@ -9,12 +9,11 @@ use Rattle.am_types.specs.declared.Hash.{Hash}
 use Rattle.am_types.specs.declared.Change.{Change}
 use Rattle.am_types.specs.Order.{hash_cmp, same}
 use Rattle.am_types.specs.Fine.{Fine}
-use Rattle.am_types.specs.Members.{Member, member, holds}
+use Rattle.am_types.specs.Members.{Member, holds}
 use Rattle.am_types.proofs.Orders.{hash_total, hash_exact, same_hash-true, same_hash_itself}
 use Rattle.am_delivery.specs.Tracking.{Tracker, Tracks}
 use Rattle.am_delivery.specs.Waiting.{member_of, members_of, waiting_of}
-use Rattle.am_delivery.proofs.Lists.{found_is}
-use Rattle.am_delivery.proofs.Members.{Once, holds_it, fresh_from_once, once_from_distinct}
+use Rattle.am_delivery.proofs.Members.{Once, fresh_from_once, once_from_distinct}
 use Rattle.am_delivery.proofs.Tracking.{deps_apart, enters_tracks}
 use Rattle.am_delivery.proofs.Entering.{absent, enters}
 use Rattle.am_delivery.proofs.Steps.{distinct}

@@ -14,20 +14,21 @@ use Rattle.am_types.specs.declared.Verdict.{Verdict}
 use Rattle.am_types.specs.declared.Verdict.TheVariants.{Fits}
 use Rattle.am_types.specs.declared.Why.{Why}
 use Rattle.am_types.specs.declared.Rejected.{Rejected}
-use Rattle.am_types.specs.Order.{hash_cmp, same}
+use Rattle.am_types.specs.Order.{hash_cmp, same, among}
 use Rattle.am_types.specs.Fine.{Fine}
 use Rattle.am_types.specs.Members.{Member, hashes, holds, holds_deps}
 use Rattle.am_types.specs.Verdicts.{verdict}
 use Rattle.am_types.specs.ValidSets.{Valid, Joins}
 use Rattle.am_types.specs.Deliver.{Sets, Waits, ready, without, turned_away, admit_by, admit, TakesOne}
+use Rattle.am_types.proofs.Ancestry.{Contains-from_filter}
 use Rattle.am_types.proofs.Orders.{hash_total, hash_exact, same_hash-true}
 use Rattle.am_delivery.specs.Tracking.{Tracker, Tracks, Takes, Releases}
 use Rattle.am_delivery.proofs.Lists.{NoRepeat, Contains-here, Contains-later, Contains-cons_cases, Contains-from_map}
-use Rattle.am_delivery.proofs.Members.{Distinct, from_among}
+use Rattle.am_delivery.proofs.Members.{Distinct, from_among, distinct_filter}
 use Rattle.am_delivery.proofs.Settling.{first_ready, waits_still, fresh_push}
 use Rattle.am_delivery.proofs.Steady.{valid_push}
 use Rattle.am_delivery.proofs.Tracking.{strict_no_repeat, IsNext, least_is_next, takes_tracks, releases_tracks, enough_missing}
-use Rattle.am_delivery.specs.Waiting.{member_of, waiting_of}
+use Rattle.am_delivery.specs.Waiting.{member_of, waiting_of, remaining}
 
 -- ---- the map
 
@@ -39,7 +40,7 @@ distinct_from_hashes : (C : List Member) → NoRepeat (hashes C) → Distinct C
 distinct_from_hashes [] nr = tt
 distinct_from_hashes (m ∷ C) nr = (false_from_ne_true _ (λ t. nr.0 (from_among (hashes C) m.hash t)), distinct_from_hashes C nr.1)
 
-without_none : (h : Hash) (W : List Member) → holds W h ≡ false → without h W ≡ W
+pub without_none : (h : Hash) (W : List Member) → holds W h ≡ false → without h W ≡ W
 without_none h [] f = refl
 without_none h (m ∷ W) f =
     let p = or_parts (same hash_cmp h m.hash) (holds W h) f in
@@ -77,11 +78,14 @@ pub record Turn (C W : List Member) (m : Member) : Type 0 where
   pub deps : holds_deps C m.change ≡ true
   pub first : ready C W ≡ m ∷ ready C (without m.hash W)
 
-module _ (C : List Member) (w : BTreeMap Hash Change) (ordered : IsOrdered hash_cmp w) (t u : Tracker) (tracks : Tracks C (waiting_of w) t)
-    (waiting : All (Waits C) (waiting_of w))
+module _ (C : List Member) (w : BTreeMap Hash Change) (ordered : IsOrdered hash_cmp w) (gone : List Hash) (t u : Tracker) (tracks : Tracks C (remaining gone (waiting_of w)) t)
+    (waiting : All (Waits C) (remaining gone (waiting_of w)))
     (h : Hash) (first : t.ready ≡ h ∷ u.ready) (above : All (λ g. hash_cmp h g ≡ Less) u.ready) (counts : u.missing ≡ t.missing) (names : u.waiting_for ≡ t.waiting_for) where
   abbrev W : List Member
-  W = waiting_of w
+  W = remaining gone (waiting_of w)
+
+  abbrev apart : Distinct W
+  apart = distinct_filter (λ m. not (among hash_cmp gone m.hash)) (waiting_of w) (distinct w ordered)
 
   differ : (g : Hash) → hash_cmp h g ≡ Less → (g ≢ h)
   differ g l e =
@@ -96,11 +100,11 @@ module _ (C : List Member) (w : BTreeMap Hash Change) (ordered : IsOrdered hash_
   ]
 
   abbrev next : IsNext C W h
-  next = least_is_next C W t tracks (distinct w ordered) h (subst (λ l. Contains l h) (sym first) (Contains-here h u.ready)) least
+  next = least_is_next C W t tracks apart h (subst (λ l. Contains l h) (sym first) (Contains-here h u.ready)) least
 
   -- the change that is found there is the first ready one
   pub change_is : (o : Option Change) → o ≡ get hash_cmp w h → o ≡ Some next.next.change
-  change_is o e = e ∙ ap (get hash_cmp w) (sym next.hash) ∙ found w ordered next.next next.waits
+  change_is o e = e ∙ ap (get hash_cmp w) (sym next.hash) ∙ found w ordered next.next (Contains-from_filter (λ m. not (among hash_cmp gone m.hash)) (waiting_of w) next.next next.waits).0
 
   pub never_none : (o : Option Change) → o ≡ get hash_cmp w h → o ≡ None → ⊥
   never_none o e f = let g = change_is o e in cc

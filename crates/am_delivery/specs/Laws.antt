@@ -2,7 +2,7 @@
 --     Leaves s C W        the closed set is C and the waiting set is W, in some order, and nothing is rejected
 --     NoneClash D         one hash, one member; one actor and seq, one member; and D is within the limits
 --     AreMembers D Ls     D has just the members of the deliveries Ls
-use Rattle.std.specs.Prelude.{◌≡◌, ◌↔◌, false, List, [], ◌++◌, flat_map, None, All, Contains, IsPermutation}
+use Rattle.std.specs.Prelude.{◌≡◌, ◌≤◌, ◌+◌, ◌↔◌, false, List, [], ◌++◌, length, flat_map, None, All, Contains, IsPermutation}
 use Rattle.am_types.specs.declared.Hash.{Hash}
 use Rattle.am_types.specs.Members.{Member, changes, holds_deps, DepsFirst, DistinctHashes}
 use Rattle.am_types.specs.Ancestors.{ancestors}
@@ -61,6 +61,10 @@ StaysStored = (C W L : List Member) → AreStored C W → All MayCome L → AreS
 -- each member that a delivery leaves in the two sets was in one of them, or came
 abbrev pub KeepsWhatCame : Type 0
 KeepsWhatCame = (C W L : List Member) (m : Member) → Contains ((deliver C W L).closed ++ (deliver C W L).waiting) m → Contains ((C ++ W) ++ L) m
+
+-- no more members are closed than were in the two sets and came
+abbrev pub JoinsNoMore : Type 0
+JoinsNoMore = (C W L : List Member) → length (deliver C W L).closed ≤ length C + (length W + length L)
 
 -- how the two sets are listed doesn't matter to a delivery
 abbrev pub ListingIsFree : Type 0

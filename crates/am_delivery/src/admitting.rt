@@ -5,7 +5,7 @@ ghost use Rattle.am_types.specs.ValidSets.{Valid};
 ghost use Rattle.am_types.specs.Deliver.{Sets, TakesOne, IsSettled, Waits, admit_by, turned_away, settle};
 ghost use Rattle.am_delivery.specs.Tracking.{Tracks};
 ghost use Rattle.am_delivery.specs.Views.{tracker};
-ghost use Rattle.am_delivery.specs.Waiting.{waiting_of};
+ghost use Rattle.am_delivery.specs.Waiting.{waiting_of, remaining};
 
 use crate::closed::Closed;
 use crate::pending::Pending;
@@ -27,20 +27,21 @@ fn why_not(verdict: Verdict) -> Option<Why>
     }
 }
 
-/// Admits or rejects the ready change of least hash, and answers whether there was one.
+/// Admits or rejects the ready change of least hash, which is gone from then on, and answers whether there was one.
 fn admit_next<S: Closed>(
     alloc: Global,
     closed: &mut S,
-    waiting: &mut BTreeMap<Hash, Change>,
+    waiting: &BTreeMap<Hash, Change>,
+    gone: &mut Vec<Hash>,
     pending: &mut Pending,
     rejected: &mut Vec<Rejected>,
 ) -> Result<bool, AllocError>
-    requires tracks { Tracks (S.members closed.old) (waiting_of waiting.old) (tracker pending.old) }
+    requires tracks { Tracks (S.members closed.old) (remaining (vec_items gone.old) (waiting_of waiting.now)) (tracker pending.old) }
     requires valid { Valid (S.members closed.old) }
-    requires waits { All (Waits (S.members closed.old)) (waiting_of waiting.old) }
-    ensures tracks { IfOk result (λ taken. Tracks (S.members closed.new) (waiting_of waiting.new) (tracker pending.new)) }
-    ensures one { let old : Sets = record { closed = S.members closed.old; waiting = waiting_of waiting.old; rejected = vec_items rejected.old } in
-        let new : Sets = record { closed = S.members closed.new; waiting = waiting_of waiting.new; rejected = vec_items rejected.new } in
+    requires waits { All (Waits (S.members closed.old)) (remaining (vec_items gone.old) (waiting_of waiting.now)) }
+    ensures tracks { IfOk result (λ taken. Tracks (S.members closed.new) (remaining (vec_items gone.new) (waiting_of waiting.now)) (tracker pending.new)) }
+    ensures one { let old : Sets = record { closed = S.members closed.old; waiting = remaining (vec_items gone.old) (waiting_of waiting.now); rejected = vec_items rejected.old } in
+        let new : Sets = record { closed = S.members closed.new; waiting = remaining (vec_items gone.new) (waiting_of waiting.now); rejected = vec_items rejected.new } in
         IfOk result (λ taken. MatchBool taken (TakesOne old new) ((new ≡ old) × IsSettled old)) }
     ensures base { OnOk result (S.base closed.new ≡ S.base closed.old) }
 {
@@ -48,10 +49,11 @@ fn admit_next<S: Closed>(
     let Some(hash) = pending.pop() else {
         return Ok(false);
     };
-    let Some(change) = waiting.remove(&hash) else {
+    let Some(change) = waiting.get(&hash) else {
         return Ok(false);
     };
-    let verdict = closed.judge(alloc, &change)?;
+    gone.push(hash)?;
+    let verdict = closed.judge(alloc, change)?;
     match why_not(verdict) {
         None => {
             closed.join(alloc, hash, change)?;
@@ -62,22 +64,24 @@ fn admit_next<S: Closed>(
     Ok(true)
 }
 
-/// Admits or rejects until no change is ready.
+/// Admits or rejects until no change is ready. Answers the hashes of the changes that wait no longer; the map still has
+/// them.
 pub fn settle_all<S: Closed>(
     alloc: Global,
     closed: &mut S,
-    waiting: &mut BTreeMap<Hash, Change>,
+    waiting: &BTreeMap<Hash, Change>,
     pending: &mut Pending,
     rejected: &mut Vec<Rejected>,
-) -> Result<(), AllocError>
-    requires tracks { Tracks (S.members closed.old) (waiting_of waiting.old) (tracker pending.old) }
+) -> Result<Vec<Hash>, AllocError>
+    requires tracks { Tracks (S.members closed.old) (waiting_of waiting.now) (tracker pending.old) }
     requires valid { Valid (S.members closed.old) }
-    requires waits { All (Waits (S.members closed.old)) (waiting_of waiting.old) }
-    ensures settles { let old : Sets = record { closed = S.members closed.old; waiting = waiting_of waiting.old; rejected = vec_items rejected.old } in
-        let new : Sets = record { closed = S.members closed.new; waiting = waiting_of waiting.new; rejected = vec_items rejected.new } in
-        OnOk result (new ≡ settle old) }
+    requires waits { All (Waits (S.members closed.old)) (waiting_of waiting.now) }
+    ensures settles { let old : Sets = record { closed = S.members closed.old; waiting = waiting_of waiting.now; rejected = vec_items rejected.old } in
+        IfOk result (λ gone. ◌≡◌ {A = Sets} (record { closed = S.members closed.new; waiting = remaining (vec_items gone) (waiting_of waiting.now); rejected = vec_items rejected.new }) (settle old)) }
+    ensures tracks { IfOk result (λ gone. Tracks (S.members closed.new) (remaining (vec_items gone) (waiting_of waiting.now)) (tracker pending.new)) }
     ensures base { OnOk result (S.base closed.new ≡ S.base closed.old) }
 {
-    while admit_next(alloc, closed, waiting, pending, rejected)? {}
-    Ok(())
+    let mut gone = Vec::new(alloc);
+    while admit_next(alloc, closed, waiting, &mut gone, pending, rejected)? {}
+    Ok(gone)
 }

@@ -1,11 +1,17 @@
 //! The changes of a delivery join the waiting ones, unless their hashes are held.
-ghost use Rattle.std.specs.Prelude.{◌≡◌, ◌++◌, ◌∷◌, [], All, IfOk, OnOk, option_map, vec_items};
-ghost use Rattle.am_types.specs.Members.{member};
+ghost use Rattle.std.specs.Prelude.{◌≡◌, ◌++◌, ◌∷◌, [], All, IfOk, OnOk, false, filter, not, option_map, vec_items};
+ghost use Rattle.std.specs.BTreeMap.{insert_entry};
+ghost use Rattle.am_types.specs.Fine.{Fine};
+ghost use Rattle.am_types.specs.Order.{hash_cmp};
+ghost use Rattle.am_types.specs.Members.{member, holds};
 ghost use Rattle.am_types.specs.Same.{same_change};
 ghost use Rattle.am_types.specs.Deliver.{Sets, MayCome, AreStored, Alike, receive};
-ghost use Rattle.am_delivery.specs.Waiting.{members_of, waiting_of};
+ghost use Rattle.am_delivery.specs.Tracking.{Tracks};
+ghost use Rattle.am_delivery.specs.Views.{tracker};
+ghost use Rattle.am_delivery.specs.Waiting.{members_of, waiting_of, remaining};
 
 use crate::closed::Closed;
+use crate::pending::Pending;
 use am_types::{Change, Hash, Rejected, Why};
 use std::alloc::{AllocError, Global};
 use std::collections::BTreeMap;
@@ -37,19 +43,63 @@ fn compared<S: Closed>(
     }
 }
 
+/// Those of these hashes that no closed change has.
+pub fn lacking<S: Closed>(alloc: Global, closed: &S, deps: &[Hash]) -> Result<Vec<Hash>, AllocError>
+    ensures { IfOk result (λ found. vec_items found ≡ filter (λ h. not (holds (S.members closed.now) h)) deps.now) }
+{
+    let mut found = Vec::new(alloc);
+    for dep in deps {
+        if !closed.holds(dep) {
+            found.push(*dep)?;
+        }
+    }
+    Ok(found)
+}
+
+/// A change whose hash is new joins the waiting ones. Its hash is put down first, so that without memory it can be taken
+/// out again.
+fn wait<S: Closed>(
+    alloc: Global,
+    closed: &S,
+    waiting: &mut BTreeMap<Hash, Change>,
+    pending: &mut Pending,
+    came: &mut Vec<Hash>,
+    hash: Hash,
+    change: Change,
+) -> Result<(), AllocError>
+    requires fresh { holds (waiting_of waiting.old) hash ≡ false }
+    requires fine { Fine change }
+    requires tracks { Tracks (S.members closed.now) (waiting_of waiting.old) (tracker pending.old) }
+    ensures entries { OnOk result (waiting.new.entries ≡ insert_entry hash_cmp waiting.old.entries hash change) }
+    ensures tracks { OnOk result (Tracks (S.members closed.now) (waiting_of waiting.new) (tracker pending.new)) }
+    ensures kept { remaining (vec_items came.new) (waiting_of waiting.new) ≡ remaining (vec_items came.old) (waiting_of waiting.old) }
+{
+    came.push(hash)?;
+    let absent = lacking(alloc, closed, change.deps.as_slice())?;
+    pending.enter(alloc, hash, absent.as_slice())?;
+    waiting.insert(hash, change)?;
+    Ok(())
+}
+
 /// A change that is held is skipped, one whose hash another change has is rejected, and any other joins the waiting
 /// ones.
 fn receive_one<S: Closed>(
     alloc: Global,
     closed: &S,
     waiting: &mut BTreeMap<Hash, Change>,
+    pending: &mut Pending,
+    came: &mut Vec<Hash>,
     rejected: &mut Vec<Rejected>,
     hash: Hash,
     change: Change,
 ) -> Result<(), AllocError>
-    ensures { let old : Sets = record { closed = S.members closed.now; waiting = waiting_of waiting.old; rejected = vec_items rejected.old } in
+    requires fine { Fine change }
+    requires tracks { Tracks (S.members closed.now) (waiting_of waiting.old) (tracker pending.old) }
+    ensures alike { let old : Sets = record { closed = S.members closed.now; waiting = waiting_of waiting.old; rejected = vec_items rejected.old } in
         let new : Sets = record { closed = S.members closed.now; waiting = waiting_of waiting.new; rejected = vec_items rejected.new } in
         OnOk result (Alike (receive old (record { hash = hash; change = change } ∷ [])) new) }
+    ensures tracks { OnOk result (Tracks (S.members closed.now) (waiting_of waiting.new) (tracker pending.new)) }
+    ensures kept { remaining (vec_items came.new) (waiting_of waiting.new) ≡ remaining (vec_items came.old) (waiting_of waiting.old) }
 {
     match compared(alloc, closed, waiting, &hash, &change)? {
         Some(true) => Ok(()),
@@ -61,28 +111,35 @@ fn receive_one<S: Closed>(
             Ok(())
         }
         None => {
-            waiting.insert(hash, change)?;
+            wait(alloc, closed, waiting, pending, came, hash, change)?;
             Ok(())
         }
     }
 }
 
-/// The same for each of these changes in turn.
+/// The same for each of these changes in turn. The hashes of those that join the waiting ones are put down.
 pub fn receive_all<S: Closed>(
     alloc: Global,
     closed: &S,
     waiting: &mut BTreeMap<Hash, Change>,
+    pending: &mut Pending,
+    came: &mut Vec<Hash>,
     rejected: &mut Vec<Rejected>,
     changes: Vec<(Hash, Change)>,
 ) -> Result<(), AllocError>
     requires stored { AreStored (S.members closed.now) (waiting_of waiting.old) }
     requires may_come { All MayCome (members_of (vec_items changes)) }
-    ensures { let old : Sets = record { closed = S.members closed.now; waiting = waiting_of waiting.old; rejected = vec_items rejected.old } in
+    requires tracks { Tracks (S.members closed.now) (waiting_of waiting.old) (tracker pending.old) }
+    ensures alike { let old : Sets = record { closed = S.members closed.now; waiting = waiting_of waiting.old; rejected = vec_items rejected.old } in
         let new : Sets = record { closed = S.members closed.now; waiting = waiting_of waiting.new; rejected = vec_items rejected.new } in
         OnOk result (Alike (receive old (members_of (vec_items changes))) new) }
+    ensures tracks { OnOk result (Tracks (S.members closed.now) (waiting_of waiting.new) (tracker pending.new)) }
+    ensures kept { remaining (vec_items came.new) (waiting_of waiting.new) ≡ remaining (vec_items came.old) (waiting_of waiting.old) }
 {
     for (hash, change) in changes {
-        receive_one(alloc, closed, waiting, rejected, hash, change)?;
+        receive_one(
+            alloc, closed, waiting, pending, came, rejected, hash, change,
+        )?;
     }
     Ok(())
 }

@@ -33,9 +33,9 @@ pub trait Closed {
         ensures { IfOk result (λ answer. answer ≡ verdict (members self.now) change.now) };
 
     /// Takes a change in.
-    fn join(&mut self, alloc: Global, hash: Hash, change: Change) -> Result<(), AllocError>
+    fn join(&mut self, alloc: Global, hash: Hash, change: &Change) -> Result<(), AllocError>
         requires valid { Valid (members self.old) }
-        requires joins { Joins (members self.old) (record { hash = hash; change = change }) }
-        ensures joined { OnOk result (members self.new ≡ members self.old ++ record { hash = hash; change = change } ∷ []) }
+        requires joins { Joins (members self.old) (record { hash = hash; change = change.now }) }
+        ensures joined { OnOk result (members self.new ≡ members self.old ++ record { hash = hash; change = change.now } ∷ []) }
         ensures base { OnOk result (base self.new ≡ base self.old) };
 }

@@ -1,31 +1,18 @@
 //! A whole delivery.
-ghost use Rattle.std.specs.Prelude.{◌≡◌, All, IfOk, OnOk, IsPermutation, filter, not, vec_items};
-ghost use Rattle.am_types.specs.Members.{holds};
+ghost use Rattle.std.specs.Prelude.{◌≡◌, All, IfOk, OnOk, OnErr, IsPermutation, None, vec_items};
 ghost use Rattle.am_types.specs.Deliver.{MayCome, AreStored, deliver as delivered};
 ghost use Rattle.am_delivery.specs.Tracking.{Tracks};
 ghost use Rattle.am_delivery.specs.Views.{tracker};
-ghost use Rattle.am_delivery.specs.Waiting.{members_of, waiting_of};
+ghost use Rattle.am_delivery.specs.Waiting.{members_of, waiting_of, remaining, IsTracked};
 
 use crate::admitting::settle_all;
-use crate::arriving::receive_all;
+use crate::arriving::{lacking, receive_all};
 use crate::closed::Closed;
 use crate::pending::Pending;
+use crate::removing::remove_all;
 use am_types::{Change, Hash, List, Rejected};
 use std::alloc::{AllocError, Global};
 use std::collections::BTreeMap;
-
-/// Those of these hashes that no closed change has.
-fn lacking<S: Closed>(alloc: Global, closed: &S, deps: &[Hash]) -> Result<Vec<Hash>, AllocError>
-    ensures { IfOk result (λ found. vec_items found ≡ filter (λ h. not (holds (S.members closed.now) h)) deps.now) }
-{
-    let mut found = Vec::new(alloc);
-    for dep in deps {
-        if !closed.holds(dep) {
-            found.push(*dep)?;
-        }
-    }
-    Ok(found)
-}
 
 /// What the waiting changes lack.
 fn enter_all<S: Closed>(
@@ -44,28 +31,105 @@ fn enter_all<S: Closed>(
     Ok(pending)
 }
 
+/// What the waiting changes lack, which is taken out of where it is kept or, where it isn't kept, found anew.
+fn take_pending<S: Closed>(
+    alloc: Global,
+    closed: &S,
+    waiting: &BTreeMap<Hash, Change>,
+    pending: &mut Option<Pending>,
+) -> Result<Pending, AllocError>
+    requires may_come { All MayCome (waiting_of waiting.now) }
+    requires tracked { IsTracked (S.members closed.now) (waiting_of waiting.now) pending.old }
+    ensures tracks { IfOk result (λ pending. Tracks (S.members closed.now) (waiting_of waiting.now) (tracker pending)) }
+    ensures taken { pending.new ≡ None }
+{
+    match pending.take() {
+        Some(pending) => Ok(pending),
+        None => enter_all(alloc, closed, waiting),
+    }
+}
+
+/// What is left to do when nothing can fail any more.
+#[derive(Drop)]
+struct Outcome {
+    /// The hashes of the changes that wait no longer.
+    gone: Vec<Hash>,
+    /// What was rejected.
+    rejected: Vec<Rejected>,
+}
+
+/// Delivers changes, but leaves those that wait no longer in the map. The hashes of those that have come into it are put
+/// down.
+fn take_in<S: Closed>(
+    alloc: Global,
+    closed: &mut S,
+    waiting: &mut BTreeMap<Hash, Change>,
+    pending: &mut Pending,
+    came: &mut Vec<Hash>,
+    changes: Vec<(Hash, Change)>,
+) -> Result<Outcome, AllocError>
+    requires stored { AreStored (S.members closed.old) (waiting_of waiting.old) }
+    requires may_come { All MayCome (members_of (vec_items changes)) }
+    requires tracks { Tracks (S.members closed.old) (waiting_of waiting.old) (tracker pending.old) }
+    ensures closed { OnOk result (S.members closed.new ≡ (delivered (S.members closed.old) (waiting_of waiting.old) (members_of (vec_items changes))).closed) }
+    ensures waiting { IfOk result (λ o. IsPermutation (delivered (S.members closed.old) (waiting_of waiting.old) (members_of (vec_items changes))).waiting (remaining (vec_items o.gone) (waiting_of waiting.new))) }
+    ensures rejected { IfOk result (λ o. vec_items o.rejected ≡ (delivered (S.members closed.old) (waiting_of waiting.old) (members_of (vec_items changes))).rejected) }
+    ensures stored { IfOk result (λ o. AreStored (S.members closed.new) (remaining (vec_items o.gone) (waiting_of waiting.new))) }
+    ensures base { OnOk result (S.base closed.new ≡ S.base closed.old) }
+    ensures tracks { IfOk result (λ o. Tracks (S.members closed.new) (remaining (vec_items o.gone) (waiting_of waiting.new)) (tracker pending.new)) }
+    ensures kept { remaining (vec_items came.new) (waiting_of waiting.new) ≡ remaining (vec_items came.old) (waiting_of waiting.old) }
+{
+    let mut rejected = Vec::new(alloc);
+    receive_all(
+        alloc,
+        closed,
+        waiting,
+        pending,
+        came,
+        &mut rejected,
+        changes,
+    )?;
+    let gone = settle_all(alloc, closed, waiting, pending, &mut rejected)?;
+    Ok(Outcome { gone, rejected })
+}
+
 /// Delivers changes, each beside its hash, to a closed set and the changes that wait beside it, and answers what was
 /// rejected, in order. A change that is held is skipped, and one whose hash another change has is rejected; the others
 /// wait. Then the ready changes, the one of least hash first, join the closed set or are rejected, until none is ready.
-/// It takes time in proportion to n log n, where n changes and dependencies wait or come, beside what the closed set
-/// takes. Without memory nothing is said of what the two sets have become.
+/// What the waiting changes lack is kept in `pending` from delivery to delivery. It takes time in proportion to n log n,
+/// where n changes and dependencies come or wait no longer, beside what the closed set takes; where nothing is kept, all
+/// waiting changes count. Without memory the same changes wait as before, nothing is kept of what they lack, and nothing
+/// is said of what the closed set has become.
 pub fn deliver<S: Closed>(
     alloc: Global,
     closed: &mut S,
     waiting: &mut BTreeMap<Hash, Change>,
+    pending: &mut Option<Pending>,
     changes: Vec<(Hash, Change)>,
 ) -> Result<List<Rejected>, AllocError>
     requires stored { AreStored (S.members closed.old) (waiting_of waiting.old) }
+    requires tracked { IsTracked (S.members closed.old) (waiting_of waiting.old) pending.old }
     requires may_come { All MayCome (members_of (vec_items changes)) }
     ensures closed { OnOk result (S.members closed.new ≡ (delivered (S.members closed.old) (waiting_of waiting.old) (members_of (vec_items changes))).closed) }
     ensures waiting { OnOk result (IsPermutation (delivered (S.members closed.old) (waiting_of waiting.old) (members_of (vec_items changes))).waiting (waiting_of waiting.new)) }
     ensures rejected { IfOk result (λ reports. reports ≡ (delivered (S.members closed.old) (waiting_of waiting.old) (members_of (vec_items changes))).rejected) }
     ensures stored { OnOk result (AreStored (S.members closed.new) (waiting_of waiting.new)) }
+    ensures tracked { OnOk result (IsTracked (S.members closed.new) (waiting_of waiting.new) pending.new) }
     ensures base { OnOk result (S.base closed.new ≡ S.base closed.old) }
+    ensures err { OnErr result (waiting_of waiting.new ≡ waiting_of waiting.old) }
+    ensures unknown { OnErr result (pending.new ≡ None) }
 {
-    let mut rejected = Vec::new(alloc);
-    receive_all(alloc, closed, waiting, &mut rejected, changes)?;
-    let mut pending = enter_all(alloc, closed, waiting)?;
-    settle_all(alloc, closed, waiting, &mut pending, &mut rejected)?;
-    Ok(List::from(rejected))
+    let mut lacking = take_pending(alloc, closed, waiting, pending)?;
+    let mut came = Vec::new(alloc);
+    match take_in(alloc, closed, waiting, &mut lacking, &mut came, changes) {
+        Ok(outcome) => {
+            remove_all(waiting, outcome.gone.as_slice());
+            *pending = Some(lacking);
+            Ok(List::from(outcome.rejected))
+        }
+        Err(error) => {
+            remove_all(waiting, came.as_slice());
+            Err(error)
+        }
+    }
 }

@@ -1,5 +1,5 @@
 //! Laws of validity and delivery. Each function does nothing; its contract is the law.
-ghost use Rattle.am_delivery.specs.Laws.{FitsInEveryListing, ComesBack, PartIsValid, RestCompletes, BothComeBack, OrderIsFree, StaysStored, ListingIsFree, HeldIsSkipped, KeepsWhatCame};
+ghost use Rattle.am_delivery.specs.Laws.{FitsInEveryListing, ComesBack, PartIsValid, RestCompletes, BothComeBack, OrderIsFree, StaysStored, ListingIsFree, HeldIsSkipped, KeepsWhatCame, JoinsNoMore};
 
 /// In a valid set each change fits those before it, in every listing with dependencies first.
 pub fn fits_in_every_listing()
@@ -51,4 +51,9 @@ pub fn held_is_skipped()
 /// Each change of the two sets that a delivery leaves was in one of them, or came.
 pub fn keeps_what_came()
     ensures { KeepsWhatCame }
+{}
+
+/// A delivery leaves no more closed changes than there were and came.
+pub fn joins_no_more()
+    ensures { JoinsNoMore }
 {}

@@ -91,7 +91,7 @@ pub struct Pending {
 
 impl Pending {
     /// No change waits.
-    pub fn new(alloc: Global) -> Pending
+    pub(crate) fn new(alloc: Global) -> Pending
         ensures missing { (g : AHash) → (tracker result).missing g ≡ 0 }
         ensures names { (g : AHash) → (tracker result).waiting_for g ≡ [] }
         ensures ready { (tracker result).ready ≡ [] }
@@ -104,7 +104,7 @@ impl Pending {
     }
 
     /// Takes the ready change of least hash out of the queue.
-    pub fn pop(&mut self) -> Option<Hash>
+    pub(crate) fn pop(&mut self) -> Option<Hash>
         ensures first { IfSome result (λ h. (tracker self.old).ready ≡ h ∷ (tracker self.new).ready) }
         ensures least { IfSome result (λ h. All (λ g. hash_cmp h g ≡ Less) (tracker self.new).ready) }
         ensures none { IfNone result ((tracker self.old).ready ≡ []) }
@@ -116,7 +116,7 @@ impl Pending {
     }
 
     /// A hash is held now: the changes that wait for it have one dependency less missing.
-    pub fn release(&mut self, h: &Hash) -> Result<(), AllocError>
+    pub(crate) fn release(&mut self, h: &Hash) -> Result<(), AllocError>
         requires { (g : AHash) → count_by (same hash_cmp g) ((tracker self.old).waiting_for h.now) ≤ (tracker self.old).missing g }
         ensures { OnOk result (Releases h.now (tracker self.old) (tracker self.new)) }
     {
@@ -127,7 +127,12 @@ impl Pending {
     }
 
     /// A change begins to wait for its dependencies that aren't held.
-    pub fn enter(&mut self, alloc: Global, h: Hash, absent: &[Hash]) -> Result<(), AllocError>
+    pub(crate) fn enter(
+        &mut self,
+        alloc: Global,
+        h: Hash,
+        absent: &[Hash],
+    ) -> Result<(), AllocError>
         requires { length absent.now < 2 ^ 64 }
         ensures count { OnOk result ((tracker self.new).missing h ≡ length absent.now) }
         ensures others { OnOk result ((g : AHash) → IsFalse (same hash_cmp h g) → (tracker self.new).missing g ≡ (tracker self.old).missing g) }

@@ -1,5 +1,5 @@
 -- What a delivery leaves in a store.
-use Rattle.std.proofs.Common.{ℕ, ◌≡◌, ◌+◌, List, [], ◌∷◌, ◌++◌, length, map, get_or, All, Contains, IsPermutation, BTreeMap, refl, sym, ap, ◌∙◌, subst, inl, inr, arith}
+use Rattle.std.proofs.Common.{ℕ, ◌≡◌, ◌≤◌, ◌+◌, Option, List, [], ◌∷◌, ◌++◌, length, map, get_or, All, Contains, IsPermutation, BTreeMap, refl, sym, ap, ◌∙◌, subst, inl, inr, arith}
 use Rattle.std.proofs.lemmas.List.{map-append, append-nil, length-append, length-map}
 use Rattle.std.proofs.lemmas.List.Elements.{All-map, All-contains, Contains-get_or, Contains-append_left, Contains-append_right, Contains-append_cases}
 use Rattle.std.proofs.lemmas.List.Sorted.{IsPermutation-sym, Contains-permutation}
@@ -12,8 +12,9 @@ use Rattle.am_graph.specs.declared.Node.{Node}
 use Rattle.am_fits.specs.Indexes.{Indexed, AreOf}
 use Rattle.am_change.specs.Contents.{hash}
 use Rattle.am_change.specs.Judgement.{HasOwnHashes}
-use Rattle.am_delivery.specs.Laws.{KeepsWhatCame}
-use Rattle.am_delivery.specs.Waiting.{member_of, members_of, waiting_of}
+use Rattle.am_delivery.specs.Laws.{KeepsWhatCame, JoinsNoMore}
+use Rattle.am_delivery.specs.Waiting.{member_of, members_of, waiting_of, IsTracked}
+use Rattle.am_delivery.specs.declared.Pending.{Pending}
 use Rattle.am_store.specs.declared.report.Report.{Report}
 use Rattle.am_store.specs.Kept.{Kept, IsKept, Takes, with_hash, with_hashes}
 use Rattle.am_store.specs.Files.{IsFile}
@@ -46,6 +47,9 @@ module _ (old : List (Hash × Change)) (w v : BTreeMap Hash Change) (copied : v.
   pub begins_stored : AreStored (members_of old) (waiting_of w) → AreStored (members_of (old ++ [])) (waiting_of v)
   begins_stored s = subst (λ C. AreStored C (waiting_of v)) (sym same_closed) (subst (AreStored (members_of old)) (sym same_waiting) s)
 
+  pub begins_tracked : (pending : Option Pending) → IsTracked (members_of old) (waiting_of w) pending → IsTracked (members_of (old ++ [])) (waiting_of v) pending
+  begins_tracked pending t = subst (λ C. IsTracked C (waiting_of v) pending) (sym same_closed) (subst (λ W. IsTracked (members_of old) W pending) (sym same_waiting) t)
+
   -- `fresh` have joined, and u wait
   module _ (kept fresh : List (Hash × Change)) (u : BTreeMap Hash Change) (L : List Member)
       (closed : members_of (kept ++ fresh) ≡ (deliver (members_of (old ++ [])) (waiting_of v) L).closed)
@@ -72,6 +76,20 @@ module _ (old : List (Hash × Change)) (w v : BTreeMap Hash Change) (copied : v.
       stored = subst (λ C. AreStored C (waiting_of u)) whole stored;
       own_hashes = own_left (members_of old) (waiting_of w) L (members_of (old ++ fresh)) (waiting_of u) keeps own came new_closed new_waiting;
     }
+
+    pub tracked_after : (pending : Option Pending) → IsTracked (members_of (kept ++ fresh)) (waiting_of u) pending → IsTracked (members_of (old ++ fresh)) (waiting_of u) pending
+    tracked_after pending t = subst (λ C. IsTracked C (waiting_of u) pending) whole t
+
+    -- no more have joined than waited and came
+    pub few_joined : JoinsNoMore → length fresh ≤ length w.entries + length L
+    few_joined few =
+        let least = few (members_of old) (waiting_of w) L in
+        let same_length = ap length new_closed in
+        let a = length-map old member_of in
+        let b = length-map (old ++ fresh) member_of in
+        let c = length-append old fresh in
+        let d = length-map w.entries member_of in
+        omega arith
 
     pub of_after : (g : List (Hash × Node)) (ix : Indexed) → AreOf (members_of (kept ++ fresh)) g ix → AreOf (members_of (old ++ fresh)) g ix
     of_after g ix a = subst (λ C. AreOf C g ix) whole a

@@ -10,7 +10,7 @@ ghost use Rattle.am_store.specs.Grown.{MayGrow};
 use am_delivery::{Closed, is_same};
 use am_fits::{OpIndex, fits};
 use am_graph::Graph;
-use am_types::{Change, Hash, Verdict};
+use am_types::{Change, Hash, Twin, Verdict};
 use std::alloc::{AllocError, Global};
 use std::marker::Model;
 
@@ -71,19 +71,20 @@ fn same_at(
     }
 }
 
-/// Takes a change in, behind those that are there.
+/// Takes a copy of a change in, behind those that are there.
 fn grow(
     alloc: Global,
     graph: &mut Graph,
     index: &mut OpIndex,
     fresh: &mut Vec<(Hash, Change)>,
     hash: Hash,
-    change: Change,
+    change: &Change,
 ) -> Result<(), AllocError>
-    requires { MayGrow graph.old index.old (record { hash = hash; change = change }) }
-    ensures fresh { OnOk result (fresh.new.items ≡ fresh.old.items ++ (hash, change) ∷ []) }
-    ensures of_set { OnOk result ((C : List Member) → AreOf C graph.old index.old → AreOf (C ++ record { hash = hash; change = change } ∷ []) graph.new index.new) }
+    requires { MayGrow graph.old index.old (record { hash = hash; change = change.now }) }
+    ensures fresh { OnOk result (fresh.new.items ≡ fresh.old.items ++ (hash, change.now) ∷ []) }
+    ensures of_set { OnOk result ((C : List Member) → AreOf C graph.old index.old → AreOf (C ++ record { hash = hash; change = change.now } ∷ []) graph.new index.new) }
 {
+    let twin = change.copy(alloc)?;
     let count = change.ops.len() as u64;
     let added = graph.add(
         alloc,
@@ -97,8 +98,8 @@ fn grow(
     if added.is_err() {
         return Err(AllocError);
     }
-    index.admit(alloc, &change)?;
-    fresh.push((hash, change))?;
+    index.admit(alloc, change)?;
+    fresh.push((hash, twin))?;
     Ok(())
 }
 
@@ -140,7 +141,7 @@ impl<'a> Closed for Growing<'a> {
         fits(alloc, &self.graph, &self.index, change)
     }
 
-    fn join(&mut self, alloc: Global, hash: Hash, change: Change) -> Result<(), AllocError> {
+    fn join(&mut self, alloc: Global, hash: Hash, change: &Change) -> Result<(), AllocError> {
         let grown = grow(
             alloc,
             &mut self.graph,

@@ -21,7 +21,7 @@ use crate::growing::Growing;
 use crate::hashing::hashed;
 use crate::lists::{changes_among, changes_with};
 use crate::report::{Counts, Report};
-use am_delivery::{deliver, keeps_what_came};
+use am_delivery::{Pending, deliver, joins_no_more, keeps_what_came};
 use am_fits::OpIndex;
 use am_graph::{ClockFault, Graph};
 use am_types::{Change, Hash, List, Twin};
@@ -35,6 +35,8 @@ use std::marker::Model;
 pub struct Store {
     closed: Vec<(Hash, Change)>,
     waiting: BTreeMap<Hash, Change>,
+    // What the waiting changes lack. After a delivery that failed, and in a copy, it isn't known before the next one.
+    pending: Option<Pending>,
     graph: Graph,
     index: OpIndex,
 }
@@ -58,6 +60,7 @@ impl Store {
         Ok(Store {
             closed: Vec::new(alloc),
             waiting: BTreeMap::new(alloc),
+            pending: None,
             graph: Graph::new(alloc),
             index: OpIndex::new(alloc),
         })
@@ -90,8 +93,8 @@ impl Store {
         self.take(alloc, pairs)
     }
 
-    /// Delivers changes that stand beside their own hashes. All that changes is made beside the old, which stays where it
-    /// is until nothing can fail any more.
+    /// Delivers changes that stand beside their own hashes. The waiting changes take them in and give them back without
+    /// memory; graph and index are made beside the old ones, which stay until nothing can fail any more.
     fn take(&mut self, alloc: Global, changes: Vec<(Hash, Change)>) -> Result<Report, AllocError>
         requires may_come { All MayCome (members_of (vec_items changes)) }
         requires own_hashes { HasOwnHashes (members_of (vec_items changes)) }
@@ -99,11 +102,23 @@ impl Store {
         ensures err { OnErr result (self.new ≡ self.old) }
     {
         keeps_what_came();
-        let mut waiting = map_copied(alloc, &self.waiting)?;
+        joins_no_more();
         let graph = self.graph.copy(alloc)?;
         let index = self.index.copy(alloc)?;
+        let most = self.waiting.len() + changes.as_slice().len();
+        let Ok(()) = self.closed.reserve(most) else {
+            return Err(AllocError);
+        };
         let mut growing = Growing::over(alloc, self.closed.as_slice(), graph, index);
-        let rejected = deliver(alloc, &mut growing, &mut waiting, changes)?;
+        let Ok(rejected) = deliver(
+            alloc,
+            &mut growing,
+            &mut self.waiting,
+            &mut self.pending,
+            changes,
+        ) else {
+            return Err(AllocError);
+        };
         let Growing {
             old: _,
             mut fresh,
@@ -112,13 +127,12 @@ impl Store {
         } = growing;
         let report = Report {
             added: count_of(fresh.as_slice()),
-            waiting: waiting.len() as u64,
+            waiting: self.waiting.len() as u64,
             rejected,
         };
         if self.closed.append(&mut fresh).is_err() {
-            return Err(AllocError);
+            unreachable!();
         }
-        self.waiting = waiting;
         self.graph = graph;
         self.index = index;
         Ok(report)
@@ -200,6 +214,7 @@ impl Twin for Store {
         Ok(Store {
             closed,
             waiting,
+            pending: None,
             graph,
             index,
         })

@@ -1,46 +1,62 @@
-use Rattle.std.proofs.Common.{◌≡◌, vec_items, sym, ◌∙◌, refl, arith}
+use Rattle.std.proofs.Common.{rules, ◌≡◌, [], All, vec_items, sym, ap, subst, ◌∙◌, refl, arith}
 use Rattle.std.proofs.lemmas.Bool.{MatchBool-at_true, MatchBool-at_false}
-use Rattle.am_types.specs.Deliver.{Sets, TakesOne, IsSettled}
-use Rattle.am_laws.proofs.SettleLaws.{settle_taken, settle_idle, fewer_wait}
-use Rattle.am_delivery.specs.Waiting.{waiting_of}
+use Rattle.am_types.specs.Deliver.{Sets, Waits, TakesOne, IsSettled, settle}
+use Rattle.am_types.proofs.SettleLaws.{settle_taken, settle_idle, fewer_wait}
+use Rattle.am_delivery.specs.Tracking.{Tracks}
+use Rattle.am_delivery.specs.Views.{tracker}
+use Rattle.am_delivery.specs.Waiting.{waiting_of, remaining}
+use Rattle.am_delivery.proofs.Leaving.{remaining_nil}
 use Rattle.am_delivery.proofs.Steps.{takes_kept}
 use Rattle.am_delivery.proofs.admitting.settle_all.Goals as goal
 
-pub loop-smaller : goal.loop-smaller
-loop-smaller g c =
-    let s : Sets = record { closed = g.S.Closed.members c.loop.closed; waiting = waiting_of c.loop.waiting; rejected = vec_items c.loop.rejected } in
-    let t : Sets = record { closed = g.S.Closed.members c.admit_next.new.closed; waiting = waiting_of c.admit_next.new.waiting; rejected = vec_items c.admit_next.new.rejected } in
+pub loop-gone-smaller : goal.loop-gone-smaller
+loop-gone-smaller g c =
+    let s : Sets = record { closed = g.S.Closed.members c.loop-gone.closed; waiting = remaining (vec_items c.loop-gone.gone) (waiting_of c.args.waiting.now); rejected = vec_items c.loop-gone.rejected } in
+    let t : Sets = record { closed = g.S.Closed.members c.admit_next.new.closed; waiting = remaining (vec_items c.admit_next.new.gone) (waiting_of c.args.waiting.now); rejected = vec_items c.admit_next.new.rejected } in
     let took = MatchBool-at_true (TakesOne s t) ((t ≡ s) × IsSettled s) c.if-branch.true c.in_ok-admit_next.ensures.one in
     let less = fewer_wait s t took in
     omega arith
 
-pub loop-preserved : goal.loop-preserved
-loop-preserved g c =
-    let s : Sets = record { closed = g.S.Closed.members c.loop.closed; waiting = waiting_of c.loop.waiting; rejected = vec_items c.loop.rejected } in
-    let t : Sets = record { closed = g.S.Closed.members c.admit_next.new.closed; waiting = waiting_of c.admit_next.new.waiting; rejected = vec_items c.admit_next.new.rejected } in
+pub loop-gone-preserved : goal.loop-gone-preserved
+loop-gone-preserved g c =
+    let s : Sets = record { closed = g.S.Closed.members c.loop-gone.closed; waiting = remaining (vec_items c.loop-gone.gone) (waiting_of c.args.waiting.now); rejected = vec_items c.loop-gone.rejected } in
+    let t : Sets = record { closed = g.S.Closed.members c.admit_next.new.closed; waiting = remaining (vec_items c.admit_next.new.gone) (waiting_of c.args.waiting.now); rejected = vec_items c.admit_next.new.rejected } in
     let took = MatchBool-at_true (TakesOne s t) ((t ≡ s) × IsSettled s) c.if-branch.true c.in_ok-admit_next.ensures.one in
     record {
       tracks = c.in_ok-admit_next.ensures.tracks;
-      kept = takes_kept s t took c.loop.invariant.kept;
-      settles = sym (settle_taken s t took) ∙ c.loop.invariant.settles;
-      base = c.in_ok-admit_next.ensures.base ∙ c.loop.invariant.base;
+      kept = takes_kept s t took c.loop-gone.invariant.kept;
+      settles = sym (settle_taken s t took) ∙ c.loop-gone.invariant.settles;
+      base = c.in_ok-admit_next.ensures.base ∙ c.loop-gone.invariant.base;
     }
 
-pub loop-init : goal.loop-init
-loop-init g c = record { tracks = c.requires.tracks; kept = record { valid = c.requires.valid; waits = c.requires.waits }; settles = refl; base = refl }
+pub loop-gone-init : goal.loop-gone-init
+loop-gone-init g c =
+    let C = g.S.Closed.members c.args.closed.now in
+    let W = waiting_of c.args.waiting.now in
+    let none : [] ≡ vec_items c.new-gone.result = search rules in
+    let all : W ≡ remaining (vec_items c.new-gone.result) W = sym (remaining_nil W) ∙ ap (λ hs. remaining hs W) none in
+    record {
+      tracks = subst (λ V. Tracks C V (tracker c.args.pending.now)) all c.requires.tracks;
+      kept = record { valid = c.requires.valid; waits = subst (All (Waits C)) all c.requires.waits };
+      settles = ap (λ V. settle (record { closed = C; waiting = V; rejected = vec_items c.args.rejected.now })) (sym all);
+      base = refl;
+    }
 
 pub admit_next-requires-clause-valid : goal.admit_next-requires-clause-valid
-admit_next-requires-clause-valid g c = c.loop.invariant.kept.valid
+admit_next-requires-clause-valid g c = c.loop-gone.invariant.kept.valid
 
 pub admit_next-requires-clause-waits : goal.admit_next-requires-clause-waits
-admit_next-requires-clause-waits g c = c.loop.invariant.kept.waits
+admit_next-requires-clause-waits g c = c.loop-gone.invariant.kept.waits
 
 pub returns-clause-base : goal.returns-clause-base
-returns-clause-base g c = c.in_ok-admit_next.ensures.base ∙ c.loop.invariant.base
+returns-clause-base g c = c.in_ok-admit_next.ensures.base ∙ c.loop-gone.invariant.base
 
 pub returns-clause-settles : goal.returns-clause-settles
 returns-clause-settles g c =
-    let s : Sets = record { closed = g.S.Closed.members c.loop.closed; waiting = waiting_of c.loop.waiting; rejected = vec_items c.loop.rejected } in
-    let t : Sets = record { closed = g.S.Closed.members c.admit_next.new.closed; waiting = waiting_of c.admit_next.new.waiting; rejected = vec_items c.admit_next.new.rejected } in
+    let s : Sets = record { closed = g.S.Closed.members c.loop-gone.closed; waiting = remaining (vec_items c.loop-gone.gone) (waiting_of c.args.waiting.now); rejected = vec_items c.loop-gone.rejected } in
+    let t : Sets = record { closed = g.S.Closed.members c.admit_next.new.closed; waiting = remaining (vec_items c.admit_next.new.gone) (waiting_of c.args.waiting.now); rejected = vec_items c.admit_next.new.rejected } in
     let rest = MatchBool-at_false (TakesOne s t) ((t ≡ s) × IsSettled s) c.if-branch.false c.in_ok-admit_next.ensures.one in
-    rest.0 ∙ sym (settle_idle s rest.1) ∙ c.loop.invariant.settles
+    rest.0 ∙ sym (settle_idle s rest.1) ∙ c.loop-gone.invariant.settles
+
+pub returns-clause-tracks : goal.returns-clause-tracks
+returns-clause-tracks g c = c.in_ok-admit_next.ensures.tracks

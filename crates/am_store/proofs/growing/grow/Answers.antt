@@ -4,9 +4,9 @@ use Rattle.am_store.proofs.Grows.{may_admit, not_held, grown}
 use Rattle.am_store.proofs.growing.grow.Goals as goal
 
 pub admit-requires : goal.admit-requires
-admit-requires c = may_admit c.args.graph.now c.args.index.now (record { hash = c.args.hash; change = c.args.change }) c.requires
+admit-requires c = may_admit c.args.graph.now c.args.index.now (record { hash = c.args.hash; change = c.args.change.now }) c.requires
 
 pub returns-clause-of_set : goal.returns-clause-of_set
 returns-clause-of_set c =
-    let m : Member = record { hash = c.args.hash; change = c.args.change } in
+    let m : Member = record { hash = c.args.hash; change = c.args.change.now } in
     grown c.args.graph.now c.add-added.new.self c.args.index.now c.admit.new.self m (not_held c.args.graph.now c.args.index.now m c.requires) (search Rattle.std.proofs.Common.rules) c.in_ok-admit.ensures.changes

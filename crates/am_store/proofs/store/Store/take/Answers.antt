@@ -1,4 +1,5 @@
-use Rattle.std.proofs.Common.{rules, true, false, not, cond, ◌≡◌, List, [], ◌++◌, length, IsPermutation, vec_items, refl, sym, ap, subst, ◌∙◌}
+use Rattle.std.proofs.Common.{rules, true, false, not, cond, ◌≡◌, ◌≤◌, ◌+◌, List, [], ◌++◌, length, IsPermutation, vec_items, refl, sym, ap, subst, ◌∙◌, arith}
+use Rattle.std.proofs.lemmas.Bool.{both_ways}
 use Rattle.std.proofs.lemmas.List.{length-map}
 use Rattle.std.specs.Result.{is_ok}
 use Rattle.am_types.specs.declared.Hash.{Hash}
@@ -6,11 +7,11 @@ use Rattle.am_types.specs.declared.Change.{Change}
 use Rattle.am_types.specs.Members.{Member}
 use Rattle.am_types.specs.Deliver.{AreStored, deliver}
 use Rattle.am_fits.specs.Indexes.{AreOf}
-use Rattle.am_delivery.specs.Waiting.{member_of, members_of, waiting_of}
+use Rattle.am_delivery.specs.Waiting.{member_of, members_of, waiting_of, IsTracked}
 use Rattle.am_store.specs.Grown.{Grown}
 use Rattle.am_store.specs.Kept.{Kept, IsKept, Takes}
 use Rattle.am_store.specs.declared.report.Report.{Report}
-use Rattle.am_store.proofs.Taking.{begins_stored, kept_after, of_after, takes}
+use Rattle.am_store.proofs.Taking.{begins_stored, begins_tracked, tracked_after, few_joined, kept_after, of_after, takes}
 use Rattle.am_store.proofs.store.Store.take.Goals as goal
 
 abbrev kept_of : List (Hash × Change) → List Member → Kept
@@ -20,70 +21,107 @@ pub deliver-requires-clause-stored : goal.deliver-requires-clause-stored
 deliver-requires-clause-stored c =
     let old = c.self.inside.closed.items in
     let w = c.self.inside.waiting in
-    let v = c.in_ok-waiting.waiting in
-    let begun : ◌≡◌ {A = Grown} c.over-growing.result (record { old = old; fresh = [] }) = c.over-growing.ensures ∙ (λ i. record { old = c.as_slice.ensures.value i; fresh = [] }) in
-    subst (λ (g : Grown). AreStored (members_of (g.old ++ g.fresh)) (waiting_of v)) (sym begun) (begins_stored old w v c.in_ok-waiting.ensures c.self.invariant.kept.stored)
+    let lent = c.as_slice-2.ensures.value ∙ c.reserve.ensures.items in
+    let begun : ◌≡◌ {A = Grown} c.over-growing.result (record { old = old; fresh = [] }) = c.over-growing.ensures ∙ (λ i. record { old = lent i; fresh = [] }) in
+    subst (λ (g : Grown). AreStored (members_of (g.old ++ g.fresh)) (waiting_of w)) (sym begun) (begins_stored old w w refl c.self.invariant.kept.stored)
 
-pub returns-then-is_err-clause-err : goal.returns-then-is_err-clause-err
-returns-then-is_err-clause-err c =
-    let failed : is_ok c.append.result ≡ false = c.is_err.ensures.negation ∙ ap not c.if-is_err.true in
-    let items : c.append.new.self.items ≡ c.self.inside.closed.items = c.append.ensures.items ∙ ap (λ b. cond b (c.self.inside.closed.items ++ c.growing.inside.fresh.items) c.self.inside.closed.items) failed in
-    ap (λ es. kept_of es (waiting_of c.self.inside.waiting)) items ∙ c.self.view_is
+pub deliver-requires-clause-tracked : goal.deliver-requires-clause-tracked
+deliver-requires-clause-tracked c =
+    let old = c.self.inside.closed.items in
+    let w = c.self.inside.waiting in
+    let lent = c.as_slice-2.ensures.value ∙ c.reserve.ensures.items in
+    let begun : ◌≡◌ {A = Grown} c.over-growing.result (record { old = old; fresh = [] }) = c.over-growing.ensures ∙ (λ i. record { old = lent i; fresh = [] }) in
+    subst (λ (g : Grown). IsTracked (members_of (g.old ++ g.fresh)) (waiting_of w) c.self.inside.pending) (sym begun) (begins_tracked old w w refl c.self.inside.pending c.self.invariant.tracked)
 
-pub invariant_of-self : goal.invariant_of-self
-invariant_of-self c =
-    let failed : is_ok c.append.result ≡ false = c.is_err.ensures.negation ∙ ap not c.if-is_err.true in
-    let items : c.append.new.self.items ≡ c.self.inside.closed.items = c.append.ensures.items ∙ ap (λ b. cond b (c.self.inside.closed.items ++ c.growing.inside.fresh.items) c.self.inside.closed.items) failed in
+pub returns-in_default-clause-err : goal.returns-in_default-clause-err
+returns-in_default-clause-err c = ap (λ es. kept_of es (waiting_of c.self.inside.waiting)) c.reserve.ensures.items ∙ c.self.view_is
+
+pub returns-in_default-deliver-clause-err : goal.returns-in_default-deliver-clause-err
+returns-in_default-deliver-clause-err c = (λ i. record { closed = members_of (c.reserve.ensures.items i); waiting = c.in_default-deliver.ensures.err i }) ∙ c.self.view_is
+
+pub invariant_of-self-in_default-deliver : goal.invariant_of-self-in_default-deliver
+invariant_of-self-in_default-deliver c =
+    let same : ◌≡◌ {A = Kept} (record { closed = members_of c.reserve.new.self.items; waiting = waiting_of c.deliver.new.waiting }) (kept_of c.self.inside.closed.items (waiting_of c.self.inside.waiting)) =
+    (λ i. record { closed = members_of (c.reserve.ensures.items i); waiting = c.in_default-deliver.ensures.err i }) in
     record {
-      kept = subst (λ es. IsKept (kept_of es (waiting_of c.self.inside.waiting))) (sym items) c.self.invariant.kept;
-      of_set = subst (λ es. AreOf (members_of es) c.self.inside.graph c.self.inside.index) (sym items) c.self.invariant.of_set;
+      kept = subst IsKept (sym same) c.self.invariant.kept;
+      of_set = subst (λ (k : Kept). AreOf k.closed c.self.inside.graph c.self.inside.index) (sym same) c.self.invariant.of_set;
+      tracked = subst (IsTracked (members_of c.reserve.new.self.items) (waiting_of c.deliver.new.waiting)) (sym c.in_default-deliver.ensures.unknown) tt;
     }
+
+pub unreachable-requires : goal.unreachable-requires
+unreachable-requires c =
+    let old = c.self.inside.closed.items in
+    let w = c.self.inside.waiting in
+    let kept = c.growing.inside.old.now in
+    let fresh = c.growing.inside.fresh.items in
+    let u = c.deliver.new.waiting in
+    let L : List Member = members_of (vec_items c.args.changes) in
+    let lent = c.as_slice-2.ensures.value ∙ c.reserve.ensures.items in
+    let begun : ◌≡◌ {A = Grown} c.over-growing.result (record { old = old; fresh = [] }) = c.over-growing.ensures ∙ (λ i. record { old = lent i; fresh = [] }) in
+    let view : ◌≡◌ {A = Grown} (record { old = kept; fresh = fresh }) c.deliver.new.closed = c.growing.view_is in
+    let closed : members_of (kept ++ fresh) ≡ (deliver (members_of (old ++ [])) (waiting_of w) L).closed =
+    ap (λ (g : Grown). members_of (g.old ++ g.fresh)) view ∙ c.in-Ok-deliver.ensures.closed ∙ ap (λ (g : Grown). (deliver (members_of (g.old ++ g.fresh)) (waiting_of w) L).closed) begun in
+    let waiting = subst (λ (g : Grown). IsPermutation (deliver (members_of (g.old ++ g.fresh)) (waiting_of w) L).waiting (waiting_of u)) begun c.in-Ok-deliver.ensures.waiting in
+    let stored = subst (λ (g : Grown). AreStored (members_of (g.old ++ g.fresh)) (waiting_of u)) (sym view) c.in-Ok-deliver.ensures.stored in
+    let base = ap (λ (g : Grown). members_of g.old) view ∙ c.in-Ok-deliver.ensures.base ∙ ap (λ (g : Grown). members_of g.old) begun in
+    let failed : is_ok c.append.result ≡ false = c.is_err.ensures.negation ∙ ap not c.if-is_err.true in
+    let few = few_joined old w w refl kept fresh u L closed waiting stored base c.joins_no_more.ensures in
+    let room = c.in-Ok.ensures.ok in
+    let waited = c.len.ensures.len in
+    let came = ap length c.as_slice.ensures.value in
+    let listed = length-map (vec_items c.args.changes) member_of in
+    let long = c.as_slice-3.ensures.len in
+    let joined = ap length c.as_slice-3.ensures.value in
+    both_ways (is_ok c.append.result) failed (c.append.ensures.succeeds (omega arith))
 
 pub invariant_of-self-2 : goal.invariant_of-self-2
 invariant_of-self-2 c =
     let old = c.self.inside.closed.items in
     let w = c.self.inside.waiting in
-    let v = c.in_ok-waiting.waiting in
     let kept = c.growing.inside.old.now in
     let fresh = c.growing.inside.fresh.items in
     let u = c.deliver.new.waiting in
     let L : List Member = members_of (vec_items c.args.changes) in
-    let begun : ◌≡◌ {A = Grown} c.over-growing.result (record { old = old; fresh = [] }) = c.over-growing.ensures ∙ (λ i. record { old = c.as_slice.ensures.value i; fresh = [] }) in
+    let lent = c.as_slice-2.ensures.value ∙ c.reserve.ensures.items in
+    let begun : ◌≡◌ {A = Grown} c.over-growing.result (record { old = old; fresh = [] }) = c.over-growing.ensures ∙ (λ i. record { old = lent i; fresh = [] }) in
     let view : ◌≡◌ {A = Grown} (record { old = kept; fresh = fresh }) c.deliver.new.closed = c.growing.view_is in
-    let closed : members_of (kept ++ fresh) ≡ (deliver (members_of (old ++ [])) (waiting_of v) L).closed =
-    ap (λ (g : Grown). members_of (g.old ++ g.fresh)) view ∙ c.in_ok-rejected.ensures.closed ∙ ap (λ (g : Grown). (deliver (members_of (g.old ++ g.fresh)) (waiting_of v) L).closed) begun in
-    let waiting = subst (λ (g : Grown). IsPermutation (deliver (members_of (g.old ++ g.fresh)) (waiting_of v) L).waiting (waiting_of u)) begun c.in_ok-rejected.ensures.waiting in
-    let stored = subst (λ (g : Grown). AreStored (members_of (g.old ++ g.fresh)) (waiting_of u)) (sym view) c.in_ok-rejected.ensures.stored in
-    let base = ap (λ (g : Grown). members_of g.old) view ∙ c.in_ok-rejected.ensures.base ∙ ap (λ (g : Grown). members_of g.old) begun in
+    let closed : members_of (kept ++ fresh) ≡ (deliver (members_of (old ++ [])) (waiting_of w) L).closed =
+    ap (λ (g : Grown). members_of (g.old ++ g.fresh)) view ∙ c.in-Ok-deliver.ensures.closed ∙ ap (λ (g : Grown). (deliver (members_of (g.old ++ g.fresh)) (waiting_of w) L).closed) begun in
+    let waiting = subst (λ (g : Grown). IsPermutation (deliver (members_of (g.old ++ g.fresh)) (waiting_of w) L).waiting (waiting_of u)) begun c.in-Ok-deliver.ensures.waiting in
+    let stored = subst (λ (g : Grown). AreStored (members_of (g.old ++ g.fresh)) (waiting_of u)) (sym view) c.in-Ok-deliver.ensures.stored in
+    let base = ap (λ (g : Grown). members_of g.old) view ∙ c.in-Ok-deliver.ensures.base ∙ ap (λ (g : Grown). members_of g.old) begun in
     let done : is_ok c.append.result ≡ true = c.is_err.ensures.negation ∙ ap not c.if-is_err.false in
-    let items : c.append.new.self.items ≡ old ++ fresh = c.append.ensures.items ∙ ap (λ b. cond b (old ++ fresh) old) done in
+    let items : c.append.new.self.items ≡ old ++ fresh = c.append.ensures.items ∙ ap (λ b. cond b (c.reserve.new.self.items ++ fresh) c.reserve.new.self.items) done ∙ ap (λ es. es ++ fresh) c.reserve.ensures.items in
     record {
-      kept = subst (λ es. IsKept (kept_of es (waiting_of u))) (sym items) (kept_after old w v c.in_ok-waiting.ensures kept fresh u L closed waiting stored base c.keeps_what_came.ensures c.self.invariant.kept.own_hashes c.requires.own_hashes);
-      of_set = subst (λ es. AreOf (members_of es) c.growing.inside.graph c.growing.inside.index) (sym items) (of_after old w v c.in_ok-waiting.ensures kept fresh u L closed waiting stored base c.growing.inside.graph c.growing.inside.index c.growing.invariant);
+      kept = subst (λ es. IsKept (kept_of es (waiting_of u))) (sym items) (kept_after old w w refl kept fresh u L closed waiting stored base c.keeps_what_came.ensures c.self.invariant.kept.own_hashes c.requires.own_hashes);
+      of_set = subst (λ es. AreOf (members_of es) c.growing.inside.graph c.growing.inside.index) (sym items) (of_after old w w refl kept fresh u L closed waiting stored base c.growing.inside.graph c.growing.inside.index c.growing.invariant);
+      tracked = subst (λ es. IsTracked (members_of es) (waiting_of u) c.deliver.new.pending) (sym items)
+          (tracked_after old w w refl kept fresh u L closed waiting stored base c.deliver.new.pending (subst (λ (g : Grown). IsTracked (members_of (g.old ++ g.fresh)) (waiting_of u) c.deliver.new.pending) (sym view) c.in-Ok-deliver.ensures.tracked));
     }
 
 pub returns-clause-ok : goal.returns-clause-ok
 returns-clause-ok c =
     let old = c.self.inside.closed.items in
     let w = c.self.inside.waiting in
-    let v = c.in_ok-waiting.waiting in
     let kept = c.growing.inside.old.now in
     let fresh = c.growing.inside.fresh.items in
     let u = c.deliver.new.waiting in
     let L : List Member = members_of (vec_items c.args.changes) in
-    let begun : ◌≡◌ {A = Grown} c.over-growing.result (record { old = old; fresh = [] }) = c.over-growing.ensures ∙ (λ i. record { old = c.as_slice.ensures.value i; fresh = [] }) in
+    let lent = c.as_slice-2.ensures.value ∙ c.reserve.ensures.items in
+    let begun : ◌≡◌ {A = Grown} c.over-growing.result (record { old = old; fresh = [] }) = c.over-growing.ensures ∙ (λ i. record { old = lent i; fresh = [] }) in
     let view : ◌≡◌ {A = Grown} (record { old = kept; fresh = fresh }) c.deliver.new.closed = c.growing.view_is in
-    let closed : members_of (kept ++ fresh) ≡ (deliver (members_of (old ++ [])) (waiting_of v) L).closed =
-    ap (λ (g : Grown). members_of (g.old ++ g.fresh)) view ∙ c.in_ok-rejected.ensures.closed ∙ ap (λ (g : Grown). (deliver (members_of (g.old ++ g.fresh)) (waiting_of v) L).closed) begun in
-    let waiting = subst (λ (g : Grown). IsPermutation (deliver (members_of (g.old ++ g.fresh)) (waiting_of v) L).waiting (waiting_of u)) begun c.in_ok-rejected.ensures.waiting in
-    let stored = subst (λ (g : Grown). AreStored (members_of (g.old ++ g.fresh)) (waiting_of u)) (sym view) c.in_ok-rejected.ensures.stored in
-    let base = ap (λ (g : Grown). members_of g.old) view ∙ c.in_ok-rejected.ensures.base ∙ ap (λ (g : Grown). members_of g.old) begun in
+    let closed : members_of (kept ++ fresh) ≡ (deliver (members_of (old ++ [])) (waiting_of w) L).closed =
+    ap (λ (g : Grown). members_of (g.old ++ g.fresh)) view ∙ c.in-Ok-deliver.ensures.closed ∙ ap (λ (g : Grown). (deliver (members_of (g.old ++ g.fresh)) (waiting_of w) L).closed) begun in
+    let waiting = subst (λ (g : Grown). IsPermutation (deliver (members_of (g.old ++ g.fresh)) (waiting_of w) L).waiting (waiting_of u)) begun c.in-Ok-deliver.ensures.waiting in
+    let stored = subst (λ (g : Grown). AreStored (members_of (g.old ++ g.fresh)) (waiting_of u)) (sym view) c.in-Ok-deliver.ensures.stored in
+    let base = ap (λ (g : Grown). members_of g.old) view ∙ c.in-Ok-deliver.ensures.base ∙ ap (λ (g : Grown). members_of g.old) begun in
     let done : is_ok c.append.result ≡ true = c.is_err.ensures.negation ∙ ap not c.if-is_err.false in
-    let items : c.append.new.self.items ≡ old ++ fresh = c.append.ensures.items ∙ ap (λ b. cond b (old ++ fresh) old) done in
-    let rejected = c.in_ok-rejected.ensures.rejected ∙ ap (λ (g : Grown). (deliver (members_of (g.old ++ g.fresh)) (waiting_of v) L).rejected) begun in
-    let joined : c.count_of.result ≡ length fresh = c.count_of.ensures ∙ ap length c.as_slice-2.ensures.value in
-    let wait = c.len.ensures.len ∙ sym (length-map u.entries member_of) in
-    let report : Report = record { added = c.count_of.result; waiting = c.len.result; rejected = c.in_ok-rejected.rejected } in
-    let took = takes old w v c.in_ok-waiting.ensures kept fresh u L closed waiting stored base c.in_ok-rejected.rejected c.count_of.result c.len.result rejected joined wait in
+    let items : c.append.new.self.items ≡ old ++ fresh = c.append.ensures.items ∙ ap (λ b. cond b (c.reserve.new.self.items ++ fresh) c.reserve.new.self.items) done ∙ ap (λ es. es ++ fresh) c.reserve.ensures.items in
+    let rejected = c.in-Ok-deliver.ensures.rejected ∙ ap (λ (g : Grown). (deliver (members_of (g.old ++ g.fresh)) (waiting_of w) L).rejected) begun in
+    let joined : c.count_of.result ≡ length fresh = c.count_of.ensures ∙ ap length c.as_slice-3.ensures.value in
+    let wait = c.len-2.ensures.len ∙ sym (length-map u.entries member_of) in
+    let report : Report = record { added = c.count_of.result; waiting = c.len-2.result; rejected = c.in-Ok-deliver.rejected } in
+    let took = takes old w w refl kept fresh u L closed waiting stored base c.in-Ok-deliver.rejected c.count_of.result c.len-2.result rejected joined wait in
     subst (λ (o : Kept). Takes o L report (kept_of c.append.new.self.items (waiting_of u))) c.self.view_is
     (subst (λ es. Takes (kept_of old (waiting_of w)) L report (kept_of es (waiting_of u))) (sym items) took)
