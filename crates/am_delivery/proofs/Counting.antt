@@ -8,8 +8,8 @@ use Rattle.am_types.specs.Same.{same_change}
 use Rattle.am_types.specs.Members.{Member, member}
 use Rattle.am_types.specs.Verdicts.{verdict}
 use Rattle.am_types.specs.Deliver.{Sets, ready, admit_by, admit, receive, receive_by, deliver}
-use Rattle.am_types.proofs.SettleLaws.{fewer_wait}
-use Rattle.am_types.proofs.Listings.{settle-keeps}
+use Rattle.am_laws.proofs.SettleLaws.{fewer_wait}
+use Rattle.am_laws.proofs.Listings.{settle-keeps}
 use Rattle.am_delivery.specs.Laws.{JoinsNoMore}
 
 abbrev count : Sets → ℕ

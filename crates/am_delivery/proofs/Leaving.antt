@@ -13,7 +13,7 @@ use Rattle.am_types.specs.declared.Change.{Change}
 use Rattle.am_types.specs.Order.{hash_cmp, same, among}
 use Rattle.am_types.specs.Members.{Member, holds}
 use Rattle.am_types.specs.Deliver.{without}
-use Rattle.am_types.proofs.Ancestry.{Contains-from_filter}
+use Rattle.am_laws.proofs.Ancestry.{Contains-from_filter}
 use Rattle.am_types.proofs.Orders.{same_hash-true, same_hash_itself}
 use Rattle.am_delivery.specs.Tracking.{Tracker, Tracks}
 use Rattle.am_delivery.specs.Waiting.{member_of, members_of, waiting_of, remaining}

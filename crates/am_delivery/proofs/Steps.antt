@@ -20,7 +20,7 @@ use Rattle.am_types.specs.Members.{Member, hashes, holds, holds_deps}
 use Rattle.am_types.specs.Verdicts.{verdict}
 use Rattle.am_types.specs.ValidSets.{Valid, Joins}
 use Rattle.am_types.specs.Deliver.{Sets, Waits, ready, without, turned_away, admit_by, admit, TakesOne}
-use Rattle.am_types.proofs.Ancestry.{Contains-from_filter}
+use Rattle.am_laws.proofs.Ancestry.{Contains-from_filter}
 use Rattle.am_types.proofs.Orders.{hash_total, hash_exact, same_hash-true}
 use Rattle.am_delivery.specs.Tracking.{Tracker, Tracks, Takes, Releases}
 use Rattle.am_delivery.proofs.Lists.{NoRepeat, Contains-here, Contains-later, Contains-cons_cases, Contains-from_map}

@@ -1,7 +1,7 @@
 use Rattle.std.proofs.Common.{rules, ◌≡◌, [], All, vec_items, sym, ap, subst, ◌∙◌, refl, arith}
 use Rattle.std.proofs.lemmas.Bool.{MatchBool-at_true, MatchBool-at_false}
 use Rattle.am_types.specs.Deliver.{Sets, Waits, TakesOne, IsSettled, settle}
-use Rattle.am_types.proofs.SettleLaws.{settle_taken, settle_idle, fewer_wait}
+use Rattle.am_laws.proofs.SettleLaws.{settle_taken, settle_idle, fewer_wait}
 use Rattle.am_delivery.specs.Tracking.{Tracks}
 use Rattle.am_delivery.specs.Views.{tracker}
 use Rattle.am_delivery.specs.Waiting.{waiting_of, remaining}
