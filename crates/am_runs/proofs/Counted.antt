@@ -262,10 +262,6 @@ opened_literal end left rest p h e w k =
 
 -- ---- the first byte of a literal run
 
-pub unsigned_nothing : None ≡ unsigned_end []
-unfolding first_unsigned
-unsigned_nothing = refl
-
 pub unsigned_low : (bytes : List ℕ) → 0 < length bytes → get_or bytes 0 0 < 128 → (Some 1 ≡ unsigned_end bytes) × (get_or bytes 0 0 ≡ unsigned_value (take 1 bytes))
 unsigned_low [] h l = absurd (omega arith)
 unsigned_low (b ∷ bytes) h l = (sym (ap length_read (first_unsigned-low (b ∷ bytes) bytes b l refl)), (let q : b ≡ b % 128 + 128 * 0 = omega arith in q))
@@ -275,10 +271,6 @@ signed_low [] h l = absurd (omega arith)
 signed_low (b ∷ bytes) h l =
     let e = first_signed-low (b ∷ bytes) bytes b l refl in
     (sym (ap length_read e), first_signed-value (b ∷ bytes) (low_value b, 1) e)
-
-pub signed_nothing : None ≡ signed_end []
-unfolding first_signed
-signed_nothing = refl
 
 pub literal_taken : {A : Type 0} (end : List ℕ → Option ℕ) (f : List ℕ → A) (copies literal left : ℕ) (rest : List ℕ) (len : ℕ) (v : A) → 0 < literal → IsCounted end copies literal left rest → Some len ≡ end rest → v ≡ f (take len rest)
     → IsCounted end copies (literal - 1) left (take (length rest - len) (drop len rest)) × (map (option_map f) (entries_from end literal left rest) ≡ Some v ∷ map (option_map f) (entries_from end (literal - 1) left (take (length rest - len) (drop len rest))))

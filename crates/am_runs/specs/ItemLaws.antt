@@ -43,6 +43,15 @@ signed_reads = record {
       ap (λ s. signed_end (s ++ rest)) (sym whole) ∙ ap length_read (v.1 rest) ∙ ap Some w.2;
 }
 
+-- no bytes begin with no number
+pub unsigned_nothing : None ≡ unsigned_end []
+unfolding first_unsigned
+unsigned_nothing = refl
+
+pub signed_nothing : None ≡ signed_end []
+unfolding first_signed
+signed_nothing = refl
+
 -- ---- texts
 
 pub record IsTextAt (bytes : List ℕ) (k : ℕ) : Type 0 where

@@ -8,7 +8,7 @@ mod item;
 mod judge;
 mod laws;
 mod literal;
-mod numbers;
+mod number;
 mod pending;
 mod place;
 mod run;

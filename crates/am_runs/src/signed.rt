@@ -10,95 +10,8 @@ use crate::counters::{Counters, counters_of, runs_from};
 use crate::cursor::RunCursor;
 use crate::fault::BadRun;
 use crate::item::SignedItem;
-use crate::numbers::{low_number, signed_first, signed_run};
-use crate::place::Kind;
-use crate::value::signed_number;
+use crate::number::{literal_number, number_of, opened};
 use std::marker::Model;
-
-// The number of an item, and null of null.
-fn number_of(entry: Option<&[u8]>) -> Option<i64>
-    requires { IfSome (option_copied entry) (IsItem signed_end) }
-    ensures { result ≡ option_map signed_value (option_copied entry.entry) }
-{
-    match entry {
-        None => None,
-        Some(item) => Some(signed_number(item)),
-    }
-}
-
-// The next number of the literal run that is being read. One of a single byte is read with no look at how many bytes there are.
-#[inline(always)]
-fn literal_number<'a>(at: &mut Counters<'a>) -> Option<i64>
-    requires held { IsCounted signed_end at.old.copies at.old.literal at.old.left at.old.rest.now }
-    requires literal { 0 < at.old.literal }
-    ensures some { IsSome result }
-    ensures held { IsCounted signed_end at.new.copies at.new.literal at.new.left at.new.rest.now }
-    ensures copies { at.new.copies ≡ at.old.copies }
-    ensures next { IfSome result (λ n. signed_numbers (entries_from signed_end at.old.literal at.old.left at.old.rest.now)
-        ≡ Some n ∷ signed_numbers (entries_from signed_end at.new.literal at.new.left at.new.rest.now)) }
-{
-    let rest = at.rest;
-    let first = rest[0];
-    if first < 128 {
-        at.literal -= 1;
-        at.rest = &rest[1..];
-        return Some(low_number(first));
-    }
-    match signed_first(rest) {
-        None => None,
-        Some((n, len)) => {
-            at.literal -= 1;
-            at.rest = &rest[len..];
-            Some(n)
-        }
-    }
-}
-
-// Opens the run behind, and takes its first entry.
-#[inline(always)]
-fn opened<'a>(at: &mut Counters<'a>, value: &mut Option<i64>) -> Option<Option<i64>>
-    requires held { IsCounted signed_end 0 0 at.old.left at.old.rest.now }
-    requires some { 0 < at.old.left }
-    ensures some { IsSome result }
-    ensures held { IsCounted signed_end at.new.copies at.new.literal at.new.left at.new.rest.now }
-    ensures next { IfSome result (λ first. signed_numbers (entries_from signed_end 0 at.old.left at.old.rest.now)
-        ≡ first ∷ counted signed_value at.new.copies value.new (entries_from signed_end at.new.literal at.new.left at.new.rest.now)) }
-{
-    match signed_run(at.rest) {
-        None => None,
-        Some((run, n)) => {
-            let left = at.left - run.count;
-            let mut next = Counters {
-                copies: 0,
-                literal: 0,
-                rest: run.rest,
-                left,
-            };
-            match run.kind {
-                Kind::Repeat => {
-                    next.copies = run.count - 1;
-                    *value = Some(n);
-                    *at = next;
-                    Some(Some(n))
-                }
-                Kind::Nulls => {
-                    next.copies = run.count - 1;
-                    *value = None;
-                    *at = next;
-                    Some(None)
-                }
-                Kind::Literal => {
-                    next.literal = run.count;
-                    *at = next;
-                    match literal_number(at) {
-                        None => None,
-                        Some(n) => Some(Some(n)),
-                    }
-                }
-            }
-        }
-    }
-}
 
 /// The signed numbers of a column, one after another.
 #[derive(Drop)]
@@ -129,7 +42,7 @@ fn numbers_of<'a>(runs: &RunCursor<'a, SignedItem>) -> SignedCursor<'a>
 {
     let (at, entry) = counters_of(runs);
     let value = if at.copies > 0 {
-        number_of(entry)
+        number_of::<SignedItem>(entry)
     } else {
         None
     };
@@ -188,7 +101,7 @@ impl<'a> SignedCursor<'a> {
         }
         match runs_from::<SignedItem>(&self.at).like() {
             None => None,
-            Some((entry, k)) => Some((number_of(entry), k)),
+            Some((entry, k)) => Some((number_of::<SignedItem>(entry), k)),
         }
     }
 
@@ -203,7 +116,7 @@ impl<'a> SignedCursor<'a> {
             return Some(self.value);
         }
         if self.at.literal > 0 {
-            return match literal_number(&mut self.at) {
+            return match literal_number::<SignedItem>(&mut self.at) {
                 None => None,
                 Some(n) => Some(Some(n)),
             };
@@ -211,6 +124,6 @@ impl<'a> SignedCursor<'a> {
         if self.at.left == 0 {
             return None;
         }
-        opened(&mut self.at, &mut self.value)
+        opened::<SignedItem>(&mut self.at, &mut self.value)
     }
 }

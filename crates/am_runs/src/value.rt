@@ -1,6 +1,7 @@
 //! What an item spells.
-ghost use Rattle.std.specs.Prelude.{◌≡◌};
+ghost use Rattle.std.specs.Prelude.{◌≡◌, ◌<◌};
 ghost use Rattle.am_leb.specs.Leb.{unsigned_value, signed_value};
+ghost use Rattle.am_leb.specs.Reading.{low_value};
 ghost use Rattle.am_runs.specs.Items.{IsItem, unsigned_end, signed_end, text_end, text_of};
 
 use am_leb::{read_i, read_u};
@@ -27,6 +28,19 @@ pub fn signed_number(item: &[u8]) -> i64
     match read_i(item) {
         Ok((n, _)) => n,
         Err(_) => 0,
+    }
+}
+
+/// The signed number of one byte.
+#[inline(always)]
+pub fn low_number(low: u8) -> i64
+    requires { low < 128 }
+    ensures { result ≡ low_value low }
+{
+    if low < 64 {
+        i64::from(low)
+    } else {
+        i64::from(low) - 128
     }
 }
 

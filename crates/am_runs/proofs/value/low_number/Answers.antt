@@ -3,7 +3,7 @@ use Rattle.std.proofs.Common.{w64, ℕ, ◌<◌, ◌≤◌, ◌≡◌, ◌-◌, 
 use Rattle.std.proofs.lemmas.Bool.Decides.{nat_tests}
 use Rattle.std.proofs.lemmas.Int.{ints}
 use Rattle.am_leb.specs.Reading.{low_value}
-use Rattle.am_runs.proofs.numbers.low_number.Goals as goal
+use Rattle.am_runs.proofs.value.low_number.Goals as goal
 
 below : (b : ℕ) → b < 64 → pos b ≡ low_value b
 below b h = let t : nat_lt b 64 ≡ true = grind (arith, nat_tests) in ap (λ c. cond c (pos b) (negsuc (127 - b))) (sym t)
