@@ -1,10 +1,7 @@
 //! A cursor over the signed numbers of a column.
-ghost use Rattle.std.specs.Prelude.{◌≡◌, ◌<◌, ◌≤◌, ◌∷◌, [], ℤ, List, Option, Some, length, take, drop, IsSome, IfOk, IfSome, IfNone, OnErr, replicate};
-ghost use Rattle.am_runs.specs.Typed.{JoinsSigned, AllItems, signed_numbers};
-ghost use Rattle.std.specs.Option.{option_copied, option_map};
-ghost use Rattle.am_leb.specs.Leb.{signed_value};
-ghost use Rattle.am_runs.specs.Items.{IsItem, signed_end};
-ghost use Rattle.am_runs.specs.Counters.{IsCounted, counted, entries_from};
+ghost use Rattle.std.specs.Prelude.{◌≡◌, ◌<◌, ◌≤◌, ◌∷◌, [], ℤ, List, Option, length, take, drop, IfOk, IfSome, IfNone, OnErr, replicate};
+ghost use Rattle.am_runs.specs.Items.{signed_end};
+ghost use Rattle.am_runs.specs.Typed.{AllItems, JoinsSigned, signed_numbers};
 
 use crate::counters::{Counters, counters_of, runs_from};
 use crate::cursor::RunCursor;
