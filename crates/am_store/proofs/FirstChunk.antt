@@ -1,5 +1,5 @@
 -- What the first chunk of some bytes is.
-use Rattle.std.proofs.Common.{ℕ, zero, suc, ◌≡◌, ◌<◌, List, ◌++◌, true, false, subst, refl, arith}
+use Rattle.std.proofs.Common.{ℕ, zero, suc, ◌≡◌, ◌<◌, List, ◌++◌, subst, refl, arith}
 use Rattle.am_frame.specs.Frames.{IsChunk, chunk_of, chunk_bytes}
 use Rattle.am_store.specs.Files.{Begins}
 

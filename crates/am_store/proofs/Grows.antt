@@ -1,14 +1,11 @@
 -- A closed set with one more change.
-use Rattle.std.proofs.Common.{ℕ, ◌≡◌, ◌<◌, ◌≤◌, ◌+◌, ◌^◌, List, [], ◌∷◌, ◌++◌, length, map, Bool, true, false, cond, Option, Some, None, option_map, refl, sym, ap, ◌∙◌, subst, arith}
-use Rattle.std.specs.List.{slice_get}
+use Rattle.std.proofs.Common.{◌≡◌, List, [], ◌∷◌, ◌++◌, false, cond, sym, ap, ◌∙◌}
 use Rattle.std.proofs.lemmas.List.{map-append, append_assoc}
-use Rattle.std.proofs.lemmas.Option.{slice_get-map}
 use Rattle.am_types.specs.declared.Hash.{Hash}
 use Rattle.am_types.specs.declared.Change.{Change}
-use Rattle.am_types.specs.Members.{Member, member, changes, holds}
-use Rattle.am_types.specs.ValidSets.{Valid, Joins, IsValidSet}
+use Rattle.am_types.specs.Members.{Member, changes}
 use Rattle.am_graph.specs.declared.Node.{Node}
-use Rattle.am_graph.specs.Graphs.{node_of, nodes, is_held}
+use Rattle.am_graph.specs.Graphs.{node_of, is_held}
 use Rattle.am_graph.proofs.Held.{is_held-nodes}
 use Rattle.am_fits.specs.Indexes.{Indexed, AreOf, MayAdmit, index_of}
 use Rattle.am_delivery.specs.Waiting.{member_of, members_of}

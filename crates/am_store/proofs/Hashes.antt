@@ -1,5 +1,5 @@
 -- Changes beside their hashes, and hashes in a set.
-use Rattle.std.proofs.Common.{ℕ, ◌≡◌, ◌<◌, ◌+◌, ◌||◌, List, [], ◌∷◌, ◌++◌, length, get_or, take, map, Bool, true, false, BTreeSet, refl, sym, ap, ◌∙◌, subst, inl, inr, All}
+use Rattle.std.proofs.Common.{ℕ, ◌≡◌, ◌<◌, ◌+◌, ◌||◌, List, [], ◌∷◌, ◌++◌, length, get_or, take, Bool, true, false, BTreeSet, refl, sym, ap, ◌∙◌, subst, inl, inr, All}
 use Rattle.std.specs.BTreeSet.{contains, Updates}
 use Rattle.std.specs.Map.{keys_of}
 use Rattle.std.proofs.lemmas.Bool.{cases_Bool, or_right}
@@ -12,9 +12,9 @@ use Rattle.am_types.specs.declared.Change.{Change}
 use Rattle.am_types.specs.Bytes.{IsHash}
 use Rattle.am_types.specs.Fine.{Fine}
 use Rattle.am_types.specs.Order.{hash_cmp, same, among}
-use Rattle.am_types.specs.Members.{Member, hashes}
+use Rattle.am_types.specs.Members.{hashes}
 use Rattle.am_types.specs.Deliver.{MayCome}
-use Rattle.am_types.proofs.Orders.{hash_total, same_hash-true, same_hash_itself}
+use Rattle.am_types.proofs.Orders.{hash_total, same_hash-true}
 use Rattle.am_change.specs.Contents.{hash}
 use Rattle.am_delivery.specs.Waiting.{member_of, members_of}
 use Rattle.am_store.specs.Kept.{with_hash, with_hashes}

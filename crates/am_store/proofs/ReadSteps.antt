@@ -1,15 +1,13 @@
 -- A file is read chunk by chunk.
 use Rattle.std.proofs.lemmas.Grind.{flat_map-append}
-use Rattle.std.proofs.Common.{ℕ, arith, ◌≡◌, ◌<◌, ◌≤◌, ◌+◌, List, [], ◌∷◌, ◌++◌, length, map, flat_map, Bool, All, refl, sym, ap, ◌∙◌, subst}
-use Rattle.std.specs.Bool.{⊤}
+use Rattle.std.proofs.Common.{ℕ, arith, ◌≡◌, ◌<◌, ◌+◌, List, [], ◌∷◌, ◌++◌, length, flat_map, Bool, All, refl, sym, ap, ◌∙◌, subst}
 use Rattle.std.specs.List.{AllZip}
-use Rattle.std.proofs.lemmas.List.{map-append, append_assoc, append-nil, length-append, length-map}
+use Rattle.std.proofs.lemmas.List.{map-append, append_assoc, append-nil, length-map}
 use Rattle.std.proofs.lemmas.List.Elements.{All-nil, All-push}
 use Rattle.am_types.specs.declared.Hash.{Hash}
 use Rattle.am_types.specs.declared.Change.{Change}
 use Rattle.am_types.specs.Bytes.{IsHash}
 use Rattle.am_types.specs.Fine.{Fine}
-use Rattle.am_types.specs.Members.{Member}
 use Rattle.am_types.specs.Deliver.{MayCome}
 use Rattle.am_frame.specs.Frames.{Chunk, IsChunk, chunk_of, chunk_bytes}
 use Rattle.am_change.specs.Contents.{contents}

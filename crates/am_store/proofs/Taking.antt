@@ -15,8 +15,7 @@ use Rattle.am_change.specs.Judgement.{HasOwnHashes}
 use Rattle.am_delivery.specs.Laws.{KeepsWhatCame, JoinsNoMore}
 use Rattle.am_delivery.specs.Waiting.{member_of, members_of, waiting_of, IsTracked}
 use Rattle.am_delivery.specs.declared.Pending.{Pending}
-use Rattle.am_store.specs.declared.report.Report.{Report}
-use Rattle.am_store.specs.Kept.{Kept, IsKept, Takes, with_hash, with_hashes}
+use Rattle.am_store.specs.Kept.{IsKept, Takes, with_hash, with_hashes}
 use Rattle.am_store.specs.Files.{IsFile}
 use Rattle.am_store.specs.Reading.{HasRead, changes_of}
 

@@ -2,7 +2,7 @@
 use Rattle.std.proofs.Common.{ℕ, suc, arith, ◌≡◌, ◌<◌, ◌+◌, ◌^◌, List, [], ◌∷◌, ◌++◌, length, flat_map, Bool, Result, Ok, Err, All, refl, sym, ap, ◌∙◌, subst, inl, inr, ◌⊎◌}
 use Rattle.std.specs.Bool.{⊤}
 use Rattle.std.specs.List.{AllZip}
-use Rattle.std.proofs.lemmas.List.{append_assoc, append-nil}
+use Rattle.std.proofs.lemmas.List.{append_assoc}
 use Rattle.std.proofs.lemmas.List.Elements.{All-head, All-tail}
 use Rattle.am_types.specs.declared.Change.{Change}
 use Rattle.am_types.specs.Fine.{Fine}
@@ -19,7 +19,7 @@ use Rattle.am_change.specs.Fronts.{IsCompressed}
 use Rattle.am_change.specs.Judgement.{Judges}
 use Rattle.am_store.specs.declared.fault.LoadFault.{LoadFault}
 use Rattle.am_store.specs.declared.fault.LoadFault.TheVariants.{BadMagic, Truncated, BadLength, BadChecksum, ChunkType, CompressedChunk, DocumentHere, CompressedColumn, BadChange}
-use Rattle.am_store.specs.Files.{Holds, IsFile, Begins, AreOfNoChange, HasFault, FirstBad}
+use Rattle.am_store.specs.Files.{Holds, Begins, AreOfNoChange, HasFault, FirstBad}
 use Rattle.am_store.specs.Laws.{OneReading}
 
 no_memory_is_not_read : (c : Change) → Ok c ≡ Err change_fault.NoMemory → ⊥

@@ -1,13 +1,12 @@
 -- What a store keeps, and what a delivery does to it.
---     Kept                        the two sets of a store: closed, in the order in which they joined, and waiting,
---                                 ascending by hash
+--     Kept                        the two sets of a store, closed and waiting
 --     own_hash c                  the hash of the change c
 --     with_hashes cs              the changes cs, each beside its own hash
 --     IsKept k                    what holds of the two sets of each store
 --     counts_of k                 how many changes there are, and how many operations, predecessors and dependencies
 --     Takes old L r new           the members L, delivered to the sets old, leave the sets new, with the report r
 --     Delivered old cs r new      the same of the changes cs, each beside its own hash
-use Rattle.std.specs.Prelude.{ℕ, ◌≡◌, ◌+◌, List, ◌++◌, map, length, sum_by, IsPermutation}
+use Rattle.std.specs.Prelude.{◌≡◌, ◌+◌, List, ◌++◌, map, length, sum_by, IsPermutation}
 use Rattle.am_types.specs.declared.Hash.{Hash}
 use Rattle.am_types.specs.declared.Change.{Change}
 use Rattle.am_types.specs.Fine.{pred_count}

@@ -2,8 +2,7 @@
 --     IsWhole s                   the sets are kept well, graph and index are those of the closed set, and where it is known
 --                                 what the waiting changes lack, it is so
 --     MatchLoad fault P           P holds of the first bad chunk, where there is one
-use Rattle.std.specs.Prelude.{List, ⊤}
-use Rattle.am_types.specs.Members.{Member, changes}
+use Rattle.std.specs.Prelude.{⊤}
 use Rattle.am_delivery.specs.Waiting.{members_of, waiting_of, IsTracked}
 use Rattle.am_fits.specs.Indexes.{AreOf}
 use Rattle.am_store.specs.Kept.{Kept, IsKept}

@@ -30,7 +30,7 @@ use std::collections::BTreeMap;
 use std::marker::Model;
 
 /// A closed set of changes, and those that wait for dependencies. Contracts see the two lists of changes, each beside
-/// its hash: the closed ones in the order in which they joined, the waiting ones ascending by hash.
+/// its hash.
 #[derive(Drop)]
 pub struct Store {
     closed: Vec<(Hash, Change)>,

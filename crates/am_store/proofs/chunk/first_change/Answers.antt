@@ -1,4 +1,4 @@
-use Rattle.std.proofs.Common.{rules, ◌≡◌, ◌<◌, Err, subst}
+use Rattle.std.proofs.Common.{rules, ◌≡◌, Err, subst}
 use Rattle.am_change.specs.declared.ChangeFault.TheVariants as change_fault
 use Rattle.am_change.specs.Judgement.{Judges}
 use Rattle.std.specs.Bool.{⊤}

@@ -1,4 +1,4 @@
-use Rattle.std.proofs.Common.{rules, ◌≡◌, ◌<◌, ◌+◌, ◌++◌, ◌∷◌, [], length, vec_items, sym, subst, ◌∙◌}
+use Rattle.std.proofs.Common.{rules, vec_items, subst, ◌∙◌}
 use Rattle.std.proofs.lemmas.List.{nil_from_length}
 use Rattle.am_store.specs.Reading.{HasRead}
 use Rattle.am_store.proofs.ReadSteps.{match_weaker, nothing_read, read_more, first_bad, all_read}

@@ -1,4 +1,3 @@
-use Rattle.std.proofs.Common.{◌≡◌}
 use Rattle.am_delivery.specs.Waiting.{members_of}
 use Rattle.am_store.proofs.Picking.{none_held, entry_found}
 use Rattle.am_store.proofs.lists.change_at.Goals as goal

@@ -1,8 +1,8 @@
-use Rattle.std.proofs.Common.{rules, ◌≡◌, ◌∷◌, [], ◌++◌, true, false, get_or, sym, ap, ◌∙◌}
+use Rattle.std.proofs.Common.{rules, ◌≡◌, true, false, get_or, sym, ap, ◌∙◌}
 use Rattle.std.specs.BTreeSet.{contains}
 use Rattle.am_types.specs.declared.Hash.{Hash}
 use Rattle.am_types.specs.declared.Change.{Change}
-use Rattle.am_types.specs.Order.{hash_cmp, among}
+use Rattle.am_types.specs.Order.{hash_cmp}
 use Rattle.am_store.proofs.Picking.{more_among}
 use Rattle.am_store.proofs.lists.changes_among.Goals.{then-contains+in_ok-change+in_ok-push, else-contains}
 use Rattle.am_store.proofs.lists.changes_among.Goals as goal

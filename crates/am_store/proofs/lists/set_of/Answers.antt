@@ -1,5 +1,4 @@
 use Rattle.std.proofs.Common.{[]}
-use Rattle.am_types.specs.declared.Hash.{Hash}
 use Rattle.am_store.proofs.Hashes.{set_more}
 use Rattle.am_store.proofs.lists.set_of.Goals as goal
 

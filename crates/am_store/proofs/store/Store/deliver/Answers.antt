@@ -1,6 +1,5 @@
-use Rattle.std.proofs.Common.{◌≡◌, vec_items, sym, ap, subst, ◌∙◌}
+use Rattle.std.proofs.Common.{sym, subst}
 use Rattle.am_change.specs.Judgement.{HasOwnHashes}
-use Rattle.am_store.specs.Kept.{with_hashes}
 use Rattle.am_store.proofs.Taking.{own_of}
 use Rattle.am_store.proofs.store.Store.deliver.Goals as goal
 

@@ -1,6 +1,5 @@
-use Rattle.std.proofs.Common.{rules, ◌≡◌, vec_items, sym, subst}
+use Rattle.std.proofs.Common.{rules, vec_items, sym, subst}
 use Rattle.am_change.specs.Judgement.{HasOwnHashes}
-use Rattle.am_delivery.specs.Waiting.{members_of}
 use Rattle.am_store.specs.Reading.{changes_of}
 use Rattle.am_store.specs.Kept.{Takes}
 use Rattle.am_store.proofs.Taking.{own_of, file_read}

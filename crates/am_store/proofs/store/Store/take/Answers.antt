@@ -1,4 +1,4 @@
-use Rattle.std.proofs.Common.{rules, true, false, not, cond, ◌≡◌, ◌≤◌, ◌+◌, List, [], ◌++◌, length, IsPermutation, vec_items, refl, sym, ap, subst, ◌∙◌, arith}
+use Rattle.std.proofs.Common.{true, false, not, cond, ◌≡◌, List, [], ◌++◌, length, IsPermutation, vec_items, refl, sym, ap, subst, ◌∙◌, arith}
 use Rattle.std.proofs.lemmas.Bool.{both_ways}
 use Rattle.std.proofs.lemmas.List.{length-map}
 use Rattle.std.specs.Result.{is_ok}
