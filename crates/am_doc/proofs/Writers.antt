@@ -1,10 +1,9 @@
 -- Writers that go over rows.
-use Rattle.std.proofs.Common.{◌≡◌, ℕ, ◌<◌, List, length, get_or, Option, Some, None, sym, ap, ◌∙◌, subst}
+use Rattle.std.proofs.Common.{◌≡◌, ℕ, ◌<◌, List, length, get_or, Option, Some, sym, ap, ◌∙◌, subst}
 use Rattle.std.specs.Prelude.{IfSome, IfOk, Result, Ok, Err}
 use Rattle.std.specs.List.{AllByRecursion}
 use Rattle.am_types.specs.declared.OpId.{OpId}
 use Rattle.am_types.specs.declared.Row.{Row}
-use Rattle.am_types.specs.declared.Meta.{Meta}
 use Rattle.am_doccols.specs.declared.RowFields.{RowFields}
 use Rattle.am_doccols.specs.Lent.{row_with}
 use Rattle.am_doccols.specs.Conditions.{IsRowFor}
