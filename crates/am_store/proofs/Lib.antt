@@ -1,8 +1,12 @@
+pub mod Authors
+pub mod Chunking
 pub mod FirstChunk
-pub mod ReadSteps
 pub mod Grows
-pub mod Ordered
-pub mod Taking
-pub mod Picking
 pub mod Hashes
+pub mod Ordered
+pub mod Picking
+pub mod Placing
+pub mod ReadSteps
+pub mod Tabled
+pub mod Taking
 pub mod Unambiguous

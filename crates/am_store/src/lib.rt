@@ -2,6 +2,7 @@
 //! at all.
 #![tactic(auto)]
 
+mod actors;
 mod chunk;
 mod copies;
 mod fault;
@@ -10,8 +11,13 @@ mod growing;
 mod hashing;
 mod laws;
 mod lists;
+mod places;
 mod report;
+mod saving;
+#[cfg(test)]
+mod saving_tests;
 mod store;
+mod table;
 #[cfg(test)]
 mod tests;
 

@@ -12,6 +12,7 @@ ghost use Rattle.am_change.specs.Judgement.{HasOwnHashes};
 ghost use Rattle.am_delivery.specs.Waiting.{members_of};
 ghost use Rattle.am_store.specs.Kept.{Kept, IsKept, counts_of, Takes, Delivered};
 ghost use Rattle.am_store.specs.Files.{IsFile, FirstBad};
+ghost use Rattle.am_store.specs.Saved.{document, saved_all};
 ghost use Rattle.am_store.specs.Whole.{MatchLoad};
 
 use crate::copies::{list_copied, map_copied};
@@ -21,10 +22,11 @@ use crate::growing::Growing;
 use crate::hashing::hashed;
 use crate::lists::{changes_among, changes_with};
 use crate::report::{Counts, Report};
+use crate::saving::{document_of, push_chunks};
 use am_delivery::{Pending, deliver, joins_no_more, keeps_what_came};
 use am_fits::OpIndex;
 use am_graph::{ClockFault, Graph};
-use am_types::{Change, Hash, List, Twin};
+use am_types::{Bytes, Change, Hash, List, Twin};
 use std::alloc::{AllocError, Global};
 use std::collections::BTreeMap;
 use std::marker::Model;
@@ -184,6 +186,25 @@ impl Store {
             self.closed.as_slice(),
             hashes.as_slice(),
         )
+    }
+
+    /// The file of the canonical document of the closed set.
+    pub fn save(&self, alloc: Global) -> Result<Bytes, AllocError>
+        ensures { IfOk result (λ file. file ≡ document self.now.closed) }
+    {
+        // The changes are copied into canonical order, and the table owns its rows: while it is made, all operations are
+        // in memory three times.
+        document_of(alloc, &self.graph, self.closed.as_slice())
+    }
+
+    /// The file of the canonical document of the closed set, and behind it the chunks of the waiting changes, ascending by
+    /// hash.
+    pub fn save_all(&self, alloc: Global) -> Result<Bytes, AllocError>
+        ensures { IfOk result (λ file. file ≡ saved_all self.now) }
+    {
+        let mut file = document_of(alloc, &self.graph, self.closed.as_slice())?;
+        push_chunks(alloc, &mut file, &self.waiting)?;
+        Ok(file)
     }
 
     /// The changes with these hashes and their ancestors, in the order in which they joined.
