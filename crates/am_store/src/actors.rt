@@ -8,7 +8,7 @@ ghost use Rattle.am_types.specs.Same.{same_bytes};
 use am_types::{ActorFault, ActorId, Change, List};
 use std::alloc::{AllocError, Global};
 
-/// The bytes of each change's author.
+// The bytes of each change's author.
 fn authors<'a>(alloc: Global, changes: &'a [Change]) -> Result<Vec<&'a [u8]>, AllocError>
     ensures authors { IfOk result (λ authors. map (λ a. a.now) authors.items ≡ map (λ c. c.actor) changes.now) }
     ensures allowed { IfOk result (λ authors. All (λ a. IsActor a.now) authors.items) }
@@ -20,7 +20,7 @@ fn authors<'a>(alloc: Global, changes: &'a [Change]) -> Result<Vec<&'a [u8]>, Al
     Ok(authors)
 }
 
-/// The actor with these bytes.
+// The actor with these bytes.
 fn actor_of(alloc: Global, bytes: &[u8]) -> Result<ActorId, AllocError>
     requires { IsActor bytes.now }
     ensures { IfOk result (λ actor. actor ≡ bytes.now) }
@@ -32,7 +32,7 @@ fn actor_of(alloc: Global, bytes: &[u8]) -> Result<ActorId, AllocError>
     }
 }
 
-/// The actors with these bytes.
+// The actors with these bytes.
 fn actors_of(alloc: Global, all: &[&[u8]]) -> Result<List<ActorId>, AllocError>
     requires { All (λ a. IsActor a.now) all.now }
     ensures { IfOk result (λ actors. actors ≡ map (λ a. a.now) all.now) }

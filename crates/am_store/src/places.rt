@@ -26,7 +26,7 @@ impl<'a> Model for Places<'a> {
     ghost invariant = { λ p. TellsPlaces p.hashes.now p.by_hash };
 }
 
-/// The place of each of these hashes, from 0; the first, where a hash stands at more than one.
+// The place of each of these hashes, from 0; the first, where a hash stands at more than one.
 fn places_of(alloc: Global, hashes: &[Hash]) -> Result<BTreeMap<Hash, u64>, AllocError>
     ensures { IfOk result (λ places. TellsPlaces hashes.now places) }
 {
@@ -48,7 +48,7 @@ impl<'a> Places<'a> {
         Ok(Places { hashes, by_hash })
     }
 
-    /// The place of this hash in the list, from 0; the length of the list where it isn't there.
+    // The place of this hash in the list, from 0; the length of the list where it isn't there.
     fn place(&self, hash: &Hash) -> u64
         ensures { result ≡ place_in self.now hash.now }
     {

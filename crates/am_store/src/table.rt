@@ -16,7 +16,7 @@ use am_rows::rows_of;
 use am_types::{Change, Hash, List, Meta, Table, Twin};
 use std::alloc::{AllocError, Global};
 
-/// The change row of a change, whose dependencies are told by their places.
+// The change row of a change, whose dependencies are told by their places.
 fn meta_of(alloc: Global, change: &Change, places: &Places<'_>) -> Result<Meta, AllocError>
     requires { Fine change.now }
     ensures { IfOk result (λ meta. meta ≡ meta_of change.now (map (λ h. place_in places.now h) change.now.deps)) }
@@ -36,7 +36,7 @@ fn meta_of(alloc: Global, change: &Change, places: &Places<'_>) -> Result<Meta, 
     })
 }
 
-/// The change rows of these changes.
+// The change rows of these changes.
 fn metas_of(
     alloc: Global,
     changes: &[Change],
@@ -53,7 +53,7 @@ fn metas_of(
     Ok(metas)
 }
 
-/// The places of the heads, where there are any.
+// The places of the heads, where there are any.
 fn suffix_of(
     alloc: Global,
     heads: &[Hash],
