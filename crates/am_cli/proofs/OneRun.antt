@@ -1,8 +1,9 @@
 -- Where files are told, the machine gives one reply to a command, and one list of replies to a script, however the two
 -- sets are listed.
-use Rattle.std.proofs.Common.{◌≡◌, ℕ, ◌-◌, ◌<◌, ◌^◌, List, [], ◌∷◌, length, Bool, true, Option, Some, None, refl, sym, ap, subst, ◌∙◌, inl, inr, ◌⊎◌, arith}
+use Rattle.std.proofs.Common.{◌≡◌, ℕ, ◌-◌, List, [], ◌∷◌, ◌++◌, length, Bool, true, Option, Some, None, refl, sym, ap, subst, ◌∙◌, inl, inr, ◌⊎◌, arith}
 use Rattle.std.specs.Prelude.{All, IsPermutation, find, not}
-use Rattle.std.proofs.lemmas.List.Sorted.{IsPermutation-refl, IsPermutation-sym, IsPermutation-trans, IsPermutation-map, length_permutation, list_any-IsPermutation}
+use Rattle.std.proofs.lemmas.List.Sorted.{IsPermutation-refl, IsPermutation-trans, IsPermutation-map, length_permutation, list_any-IsPermutation}
+use Rattle.std.specs.FinMap.{insert}
 use Rattle.am_outside.specs.Files.{Files, Stands}
 use Rattle.am_frame.specs.Frames.{Chunk, IsFile}
 use Rattle.am_frame.specs.Faults.{FirstBad}
@@ -12,25 +13,28 @@ use Rattle.am_types.specs.declared.Hash.{Hash}
 use Rattle.am_types.specs.Order.{hash_cmp, sorted_by, same as same_by}
 use Rattle.am_types.specs.Members.{Member, hashes, heads, holds}
 use Rattle.am_types.specs.ValidSets.{Valid}
-use Rattle.am_types.specs.Deliver.{Sets, deliver, AreStored, MayCome}
+use Rattle.am_types.specs.Deliver.{AreStored, MayCome}
 use Rattle.am_laws.specs.Laws.{ListingIsFree}
 use Rattle.am_delivery.specs.Laws as delivery
+use Rattle.am_delivery.proofs.Alikeness.{sorted_permutation}
+use Rattle.am_delivery.proofs.Steady.{steady_from}
 use Rattle.am_store.specs.Kept.{Kept, with_hashes}
 use Rattle.am_store.specs.Files as store
+use Rattle.am_store.specs.Saved.{document, chunks, saved_all}
 use Rattle.am_store.specs.declared.LoadFault.{LoadFault}
 use Rattle.am_cli.proofs.Coming.{changes_may_come}
 use Rattle.am_cli.specs.declared.asked.Asked.{Asked}
 use Rattle.am_cli.specs.declared.asked.Asked.TheVariants.{Do, LongLine, Syntax, BadHash}
 use Rattle.am_cli.specs.Session.{Held, SameSets, SameHeld, nothing_held, with_kept}
 use Rattle.am_cli.proofs.SameHeld.{MayHold, same_held, between, same_with}
-use Rattle.am_cli.specs.Replies.{hash_list}
+use Rattle.am_cli.specs.Replies.{hash_list, kept_reply}
 use Rattle.am_cli.specs.Listing.{Lists, listing, bad_chunk}
 use Rattle.am_cli.specs.Apply.{Applies, Delivers, outcome, report_text, bad_file}
 use Rattle.am_cli.specs.Reading.{reading_by, reading_at, reading}
 use Rattle.am_json.specs.declared.Form.{Form}
 use Rattle.am_json.specs.declared.Form.TheVariants as form
-use Rattle.am_cli.specs.Machine.{State, state, first_state, SameState, Answers, Runs, left_after}
-use Rattle.am_cli.specs.declared.command.Command.TheVariants.{Frames, Apply, Heads, Waiting, Show, Conflicts}
+use Rattle.am_cli.specs.Machine.{State, state, first_state, SameState, with_file, Keeps, Answers, Runs, left_after}
+use Rattle.am_cli.specs.declared.command.Command.TheVariants.{Frames, Apply, Save, SaveAll, Heads, Waiting, Show, Conflicts}
 
 -- what the crates below promise
 pub record Laws : Type 0 where
@@ -172,6 +176,25 @@ one_found c s t name file other sound p k f g =
     let b = subst (λ x. Stands x name other) (sym k.files ∙ sound.files) g in
     sym a ∙ b
 
+-- what is saved doesn't depend on how the sets are listed
+one_document : Laws → (c s : Held) → MayHold c → SameHeld c s → document s.kept.closed ≡ document c.kept.closed
+one_document law c s may p = rw ((law.reads c.kept.closed s.kept.closed may.valid p.sets.closed).table)
+
+one_save : Laws → (c s : Held) → MayHold c → SameHeld c s → saved_all s.kept ≡ saved_all c.kept
+one_save law c s may p =
+    let closed = one_document law c s may p in
+    let waiting = sorted_permutation c.kept.waiting s.kept.waiting (steady_from c.kept.closed c.kept.waiting [] may).distinct p.sets.waiting in
+    λ i. closed i ++ chunks (waiting i)
+
+one_kept : (c s t : State) (name bytes here there : List ℕ) (r q : List ℕ) (end other : State) → Sound c → SameState c s → SameState c t → here ≡ bytes → there ≡ bytes → Keeps s name here r end → Keeps t name there q other → Agree r q end other
+one_kept c s t name bytes here there r q end other sound p k a b f g = record {
+  reply = f.0 ∙ ap (λ all. kept_reply (length all)) (a ∙ sym b) ∙ sym g.0;
+  next = state c.held (with_file name bytes c.files);
+  sound = record { held = sound.held; told = insert sound.told name bytes; files = ap (with_file name bytes) sound.files };
+  left = subst (SameState (state c.held (with_file name bytes c.files))) (sym f.1) (record { held = p.held; files = λ i. with_file name (sym a i) (p.files i) });
+  right = subst (SameState (state c.held (with_file name bytes c.files))) (sym g.1) (record { held = k.held; files = λ i. with_file name (sym b i) (k.files i) });
+}
+
 one_answer : Laws → (c s t : State) (asked : Asked) (r q : List ℕ) (end other : State) → Sound c → SameState c s → SameState c t → Answers s asked r end → Answers t asked q other → Agree r q end other
 one_answer law c s t (Do (Frames name)) r q end other sound p k f g = stay c s t r q end other sound p k (one_listing law f.0 g.0 r q (one_found c s t name f.0 g.0 sound p k f.1 g.1) f.2 g.2) f.3 g.3
 one_answer law c s t (Do (Apply name)) r q end other sound p k f g =
@@ -183,6 +206,10 @@ one_answer law c s t (Do (Apply name)) r q end other sound p k f g =
       left = record { held = held.left; files = p.files ∙ sym f.3 };
       right = record { held = held.right; files = k.files ∙ sym g.3 };
     }
+one_answer law c s t (Do (Save name)) r q end other sound p k f g =
+    one_kept c s t name (document c.held.kept.closed) _ _ r q end other sound p k (one_document law c.held s.held sound.held p.held) (one_document law c.held t.held sound.held k.held) f g
+one_answer law c s t (Do (SaveAll name)) r q end other sound p k f g =
+    one_kept c s t name (saved_all c.held.kept) _ _ r q end other sound p k (one_save law c.held s.held sound.held p.held) (one_save law c.held t.held sound.held k.held) f g
 one_answer law c s t (Do Heads) r q end other sound p k f g =
     let here = (law.reads c.held.kept.closed s.held.kept.closed sound.held.valid p.held.sets.closed).heads in
     let there = (law.reads c.held.kept.closed t.held.kept.closed sound.held.valid k.held.sets.closed).heads in

@@ -17,6 +17,7 @@ use crate::heads::{list_heads, list_waiting};
 use crate::listing::list_frames;
 use crate::reading::read;
 use crate::replies::refusal;
+use crate::saving::{saved, saved_all};
 use crate::session::Session;
 use am_json::Form;
 use am_outside::{FetchFault, Folder};
@@ -91,6 +92,8 @@ pub fn answer<F: Folder>(
         Asking::BadHash => Ok(refusal(alloc, "hash")?),
         Asking::Do(Command::Frames(name)) => frames(alloc, name, files),
         Asking::Do(Command::Apply(name)) => applied(alloc, name, session, files),
+        Asking::Do(Command::Save(name)) => saved(alloc, name, session, files),
+        Asking::Do(Command::SaveAll(name)) => saved_all(alloc, name, session, files),
         Asking::Do(Command::Heads) => Ok(list_heads(alloc, session.store())?),
         Asking::Do(Command::Waiting) => Ok(list_waiting(alloc, session.store())?),
         Asking::Do(Command::Show(named)) => {

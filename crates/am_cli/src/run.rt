@@ -169,6 +169,8 @@ mod memory;
 #[cfg(test)]
 mod notes;
 #[cfg(test)]
+mod saves;
+#[cfg(test)]
 mod scripts;
 #[cfg(test)]
 mod tests;

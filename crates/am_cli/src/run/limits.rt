@@ -39,7 +39,7 @@ fn predecessors_fill_up(rt: HostRuntime) -> Result<(), Fail> {
     files.put_file("over_all", &joined(alloc, &OVER_ALL)?)?;
     files.put_file("one_more", &joined(alloc, &ONE_MORE)?)?;
     let script = b"apply values\napply over_all\napply one_more\nheads\n".to_vec(alloc)?;
-    let (status, out) = outcome(alloc, files, script)?;
+    let (status, out) = outcome(alloc, &mut files, script)?;
     assert_eq!(rt; status, Status::Done);
     assert_eq!(rt;
         std::str::from_utf8(out.bytes())?,
@@ -65,8 +65,8 @@ fn lines_and_scripts_at_their_lengths(rt: HostRuntime) -> Result<(), Fail> {
         (b'\n', 16_777_217, Status::InputLong, ""),
     ];
     for (byte, times, ended, replies) in table {
-        let files = MemoryFolder::new(alloc, Vec::new(alloc));
-        let (status, out) = outcome(alloc, files, vec![in alloc; byte; times]?)?;
+        let mut files = MemoryFolder::new(alloc, Vec::new(alloc));
+        let (status, out) = outcome(alloc, &mut files, vec![in alloc; byte; times]?)?;
         assert_eq!(rt; status, ended, "at {times}");
         assert_eq!(rt; out.bytes(), replies.as_bytes(), "at {times}");
     }
@@ -86,7 +86,7 @@ fn every_cut_is_truncated(rt: HostRuntime) -> Result<(), Fail> {
     for len in 0..whole.len() {
         let mut files = MemoryFolder::new(alloc, Vec::new(alloc));
         files.put_file("cut", &whole[..len])?;
-        let (_, out) = outcome(alloc, files, b"apply cut\nheads\n".to_vec(alloc)?)?;
+        let (_, out) = outcome(alloc, &mut files, b"apply cut\nheads\n".to_vec(alloc)?)?;
         let replies = if len == 0 {
             "ok added 0 waiting 0 rejected 0\nok 0\n"
         } else {

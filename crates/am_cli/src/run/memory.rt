@@ -1,4 +1,5 @@
 //! For tests: a run of a script over memory, and files put together from pieces.
+use super::chunks::FILES;
 use super::*;
 use am_outside::{MemoryFolder, MemorySink, MemorySource};
 use std::test::Fail;
@@ -6,15 +7,24 @@ use std::test::Fail;
 /// How a run of the script over these files ends, and what it writes.
 pub fn outcome(
     alloc: Global,
-    mut files: MemoryFolder,
+    files: &mut MemoryFolder,
     script: Vec<u8>,
 ) -> Result<(Status, MemorySink), Fail> {
     let mut run_alone = Text::new(alloc);
     run_alone.push_str("run")?;
     let mut input = MemorySource::new(script, 4096, Vec::new(alloc));
     let mut out = MemorySink::new(alloc, Vec::new(alloc));
-    let status = run(alloc, &[run_alone], &mut input, &mut files, &mut out);
+    let status = run(alloc, &[run_alone], &mut input, files, &mut out);
     Ok((status, out))
+}
+
+/// A folder with all the files, of which these calls fail.
+pub fn folder(alloc: Global, failing: Vec<u64>) -> Result<MemoryFolder, Fail> {
+    let mut files = MemoryFolder::new(alloc, failing);
+    for (name, digits) in FILES {
+        files.put_file(name, &hex::decode(alloc, digits)?)?;
+    }
+    Ok(files)
 }
 
 /// These pieces, in hexadecimal, each so many times.

@@ -83,7 +83,7 @@ fn notes_are_read_at_their_heads(rt: HostRuntime) -> Result<(), Fail> {
         files.put_file("second", &joined(alloc, &SECOND)?)?;
         files.put_file("third", &joined(alloc, &THIRD)?)?;
         let script = format!(in alloc; "apply third\napply first\napply second\nshow{hash}\n")?;
-        let (status, out) = outcome(alloc, files, script.as_bytes().to_vec(alloc)?)?;
+        let (status, out) = outcome(alloc, &mut files, script.as_bytes().to_vec(alloc)?)?;
         let text = text_of(alloc, tens, count, title)?;
         let replies = format!(in alloc;
             "ok added 0 waiting 1 rejected 0\nok added 2 waiting 0 rejected 0\nok added 1 waiting 0 rejected 0\n{text}"
