@@ -1,0 +1,9 @@
+pub mod Digests
+pub mod Tests
+pub mod Shapes
+pub mod Limits
+pub mod References
+pub mod RoundHashes
+pub mod Past
+pub mod Joining
+pub mod InTurn

@@ -1,0 +1,5 @@
+use Rattle.am_genlaws.proofs.InTurn as in_turn
+use Rattle.am_genlaws.proofs.laws.made_are_fine.Goals as goal
+
+pub returns : goal.returns
+returns c = in_turn.made_are_fine
