@@ -9,4 +9,5 @@ pub mod Placing
 pub mod ReadSteps
 pub mod Tabled
 pub mod Taking
+pub mod Telling
 pub mod Unambiguous

@@ -61,7 +61,7 @@ none_held C h e t = both_ways (holds C h) (absent C h e) t
 
 -- ---- the changes with some hashes
 
-member_is : (C : List Member) → Unique C → (m : Member) → Contains C m → member C m.hash ≡ Some m
+pub member_is : (C : List Member) → Unique C → (m : Member) → Contains C m → member C m.hash ≡ Some m
 member_is C one m c = go (member C m.hash) refl
   where
     p : Member → Bool
@@ -76,7 +76,7 @@ pub more_found : (C : List Member) (hs : List Hash) (i : ℕ) (d : Hash) → i <
 more_found C hs i d l cs c e had =
     map-append (λ c. Some c) cs (c ∷ []) ∙ (λ j. had j ++ sym e j ∷ []) ∙ sym (map-append (found C) (take i hs) (get_or hs i d ∷ [])) ∙ ap (map (found C)) (sym (take_more hs i d l))
 
-some_once : {X : Type 0} (xs ys : List X) → map (λ x. Some x) xs ≡ map (λ x. Some x) ys → xs ≡ ys
+pub some_once : {X : Type 0} (xs ys : List X) → map (λ x. Some x) xs ≡ map (λ x. Some x) ys → xs ≡ ys
 some_once [] [] e = refl
 some_once [] (y ∷ ys) e = cc
 some_once (x ∷ xs) [] e = cc
@@ -94,7 +94,7 @@ all_found C one (m ∷ xs) w =
     let again = all_found C one xs (λ n c. w n (Contains-later m xs n c)) in
     λ i. here i ∷ again i
 
-in_order : (C : List Member) → Within (order C) C
+pub in_order : (C : List Member) → Within (order C) C
 unfolding order
 in_order C m c = Contains-permutation (order C) C m (IsPermutation-sym C (order C) (IsPermutation-sorted_by (canonical_cmp C) C)) c
 

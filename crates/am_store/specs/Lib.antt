@@ -1,5 +1,6 @@
 pub mod Files
 pub mod Grown
+pub mod History
 pub mod Kept
 pub mod Laws
 pub mod Places

@@ -7,8 +7,13 @@ mod chunk;
 mod copies;
 mod fault;
 mod file;
+#[cfg(test)]
+mod generated_tests;
 mod growing;
 mod hashing;
+mod history;
+#[cfg(test)]
+mod history_tests;
 mod laws;
 mod lists;
 mod places;
@@ -24,6 +29,7 @@ mod tests;
 pub use am_graph::ClockFault;
 pub use am_types::{Rejected, Why};
 pub use fault::{LoadError, LoadFault, ReadFault};
+pub use history::HistoryLine;
 pub use laws::one_reading;
 pub use report::{Counts, Report};
 pub use store::Store;

@@ -13,7 +13,7 @@ use std::alloc::{AllocError, Global};
 use std::collections::BTreeSet;
 
 /// The change with this hash.
-fn change_at<'a>(graph: &Graph, entries: &'a [(Hash, Change)], hash: &Hash) -> &'a Change
+pub fn change_at<'a>(graph: &Graph, entries: &'a [(Hash, Change)], hash: &Hash) -> &'a Change
     requires of_set { graph.now ≡ nodes (members_of entries.now) }
     requires held { holds (members_of entries.now) hash.now ≡ true }
     ensures { option_map (λ m. m.change) (member (members_of entries.now) hash.now) ≡ Some result.now }

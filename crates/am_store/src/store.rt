@@ -12,6 +12,7 @@ ghost use Rattle.am_change.specs.Judgement.{HasOwnHashes};
 ghost use Rattle.am_delivery.specs.Waiting.{members_of};
 ghost use Rattle.am_store.specs.Kept.{Kept, IsKept, counts_of, Takes, Delivered};
 ghost use Rattle.am_store.specs.Files.{IsFile, FirstBad};
+ghost use Rattle.am_store.specs.History.{history};
 ghost use Rattle.am_store.specs.Saved.{document, saved_all};
 ghost use Rattle.am_store.specs.Whole.{MatchLoad};
 
@@ -20,6 +21,7 @@ use crate::fault::ReadFault;
 use crate::file::changes_in;
 use crate::growing::Growing;
 use crate::hashing::hashed;
+use crate::history::{HistoryLine, lines_with};
 use crate::lists::{changes_among, changes_with};
 use crate::report::{Counts, Report};
 use crate::saving::{document_of, push_chunks};
@@ -181,6 +183,19 @@ impl Store {
     {
         let hashes = self.graph.order(alloc)?;
         changes_with(
+            alloc,
+            &self.graph,
+            self.closed.as_slice(),
+            hashes.as_slice(),
+        )
+    }
+
+    /// What each change of the closed set is called by, in canonical order.
+    pub fn history(&self, alloc: Global) -> Result<List<HistoryLine>, AllocError>
+        ensures { IfOk result (λ lines. lines ≡ history self.now.closed) }
+    {
+        let hashes = self.graph.order(alloc)?;
+        lines_with(
             alloc,
             &self.graph,
             self.closed.as_slice(),

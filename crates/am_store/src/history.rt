@@ -1,0 +1,67 @@
+//! What a store tells of each change.
+ghost use Rattle.std.specs.Prelude.{◌≡◌, All, IfOk, true, Some, map, option_map};
+ghost use Rattle.am_types.specs.Members.{member, holds};
+ghost use Rattle.am_graph.specs.Graphs.{nodes};
+ghost use Rattle.am_delivery.specs.Waiting.{members_of};
+ghost use Rattle.am_store.specs.History.{line_of};
+
+use crate::lists::change_at;
+use am_graph::Graph;
+use am_types::{ActorId, Change, Hash, List, Text, Twin};
+use std::alloc::{AllocError, Global};
+
+/// A change as the history of a set tells it: what it is called by, and neither its operations nor its dependencies.
+#[derive(Debug, PartialEq, Eq, Drop)]
+pub struct HistoryLine {
+    /// The hash of the change.
+    pub hash: Hash,
+    /// Its author.
+    pub actor: ActorId,
+    /// The number of the change among those of its author, from 1.
+    pub seq: u64,
+    /// The counter of its first operation.
+    pub start: u64,
+    /// How many operations it has.
+    pub count: u64,
+    /// When it was made, in milliseconds since 1970.
+    pub time: i64,
+    /// What its author says of it.
+    pub message: Text,
+}
+
+// The line of a change.
+fn line_of(alloc: Global, hash: &Hash, change: &Change) -> Result<HistoryLine, AllocError>
+    ensures { IfOk result (λ line. line ≡ line_of (record { hash = hash.now; change = change.now })) }
+{
+    let actor = change.actor.copy(alloc)?;
+    let message = change.message.copy(alloc)?;
+    Ok(HistoryLine {
+        hash: *hash,
+        actor,
+        seq: change.seq,
+        start: change.start,
+        count: change.ops.len() as u64,
+        time: change.time,
+        message,
+    })
+}
+
+/// The lines of the changes with these hashes, in the order of the hashes.
+pub fn lines_with(
+    alloc: Global,
+    graph: &Graph,
+    entries: &[(Hash, Change)],
+    hashes: &[Hash],
+) -> Result<List<HistoryLine>, AllocError>
+    requires of_set { graph.now ≡ nodes (members_of entries.now) }
+    requires held { All (λ h. holds (members_of entries.now) h ≡ true) hashes.now }
+    ensures { IfOk result (λ lines. map (λ l. Some l) lines ≡ map (λ h. option_map line_of (member (members_of entries.now) h)) hashes.now) }
+{
+    let mut lines = List::new(alloc);
+    for hash in hashes {
+        let change = change_at(graph, entries, hash);
+        let line = line_of(alloc, hash, change)?;
+        lines.push(line)?;
+    }
+    Ok(lines)
+}
