@@ -1,7 +1,7 @@
 -- Where files are told, the machine gives one reply to a command, and one list of replies to a script, however the two
 -- sets are listed.
-use Rattle.std.proofs.Common.{◌≡◌, ℕ, ◌-◌, List, [], ◌∷◌, ◌++◌, length, Bool, true, Option, Some, None, refl, sym, ap, subst, ◌∙◌, inl, inr, ◌⊎◌, arith}
-use Rattle.std.specs.Prelude.{All, IsPermutation, find, not}
+use Rattle.std.proofs.Common.{◌≡◌, ℕ, ◌-◌, List, [], ◌∷◌, ◌++◌, length, Bool, true, false, Option, Some, None, refl, sym, ap, subst, ◌∙◌, inl, inr, ◌⊎◌, arith}
+use Rattle.std.specs.Prelude.{All, IsPermutation, find, map, not}
 use Rattle.std.proofs.lemmas.List.Sorted.{IsPermutation-refl, IsPermutation-trans, IsPermutation-map, length_permutation, list_any-IsPermutation}
 use Rattle.std.specs.FinMap.{insert}
 use Rattle.am_outside.specs.Files.{Files, Stands}
@@ -20,21 +20,23 @@ use Rattle.am_delivery.proofs.Alikeness.{sorted_permutation}
 use Rattle.am_delivery.proofs.Steady.{steady_from}
 use Rattle.am_store.specs.Kept.{Kept, with_hashes}
 use Rattle.am_store.specs.Files as store
+use Rattle.am_store.specs.History.{line_of}
 use Rattle.am_store.specs.Saved.{document, chunks, saved_all}
 use Rattle.am_store.specs.declared.LoadFault.{LoadFault}
 use Rattle.am_cli.proofs.Coming.{changes_may_come}
-use Rattle.am_cli.specs.declared.asked.Asked.{Asked}
-use Rattle.am_cli.specs.declared.asked.Asked.TheVariants.{Do, LongLine, Syntax, BadHash}
+use Rattle.am_cli.specs.declared.request.Request.{Request}
+use Rattle.am_cli.specs.declared.request.Request.TheVariants.{Do, LongLine, Syntax, BadHash}
 use Rattle.am_cli.specs.Session.{Held, SameSets, SameHeld, nothing_held, with_kept}
 use Rattle.am_cli.proofs.SameHeld.{MayHold, same_held, between, same_with}
 use Rattle.am_cli.specs.Replies.{hash_list, kept_reply}
 use Rattle.am_cli.specs.Listing.{Lists, listing, bad_chunk}
 use Rattle.am_cli.specs.Apply.{Applies, Delivers, outcome, report_text, bad_file}
 use Rattle.am_cli.specs.Reading.{reading_by, reading_at, reading}
+use Rattle.am_cli.specs.History.{history_text}
 use Rattle.am_json.specs.declared.Form.{Form}
 use Rattle.am_json.specs.declared.Form.TheVariants as form
 use Rattle.am_cli.specs.Machine.{State, state, first_state, SameState, with_file, Keeps, Answers, Runs, left_after}
-use Rattle.am_cli.specs.declared.command.Command.TheVariants.{Frames, Apply, Save, SaveAll, Heads, Waiting, Show, Conflicts}
+use Rattle.am_script.specs.declared.Command.TheVariants.{Frames, Apply, Load, Save, SaveAll, Heads, Waiting, History, Show, Conflicts, Bench}
 
 -- what the crates below promise
 pub record Laws : Type 0 where
@@ -195,10 +197,19 @@ one_kept c s t name bytes here there r q end other sound p k a b f g = record {
   right = subst (SameState (state c.held (with_file name bytes c.files))) (sym g.1) (record { held = k.held; files = λ i. with_file name (sym b i) (k.files i) });
 }
 
-one_answer : Laws → (c s t : State) (asked : Asked) (r q : List ℕ) (end other : State) → Sound c → SameState c s → SameState c t → Answers s asked r end → Answers t asked q other → Agree r q end other
+one_answer : Laws → (c s t : State) (asked : Request) (r q : List ℕ) (end other : State) → Sound c → SameState c s → SameState c t → Answers s asked r end → Answers t asked q other → Agree r q end other
 one_answer law c s t (Do (Frames name)) r q end other sound p k f g = stay c s t r q end other sound p k (one_listing law f.0 g.0 r q (one_found c s t name f.0 g.0 sound p k f.1 g.1) f.2 g.2) f.3 g.3
 one_answer law c s t (Do (Apply name)) r q end other sound p k f g =
     let held = one_applied law true c.held s.held t.held sound.held p.held k.held f.0 g.0 r q end.held other.held (one_found c s t name f.0 g.0 sound p k f.1 g.1) f.2 g.2 in
+    record {
+      reply = held.reply;
+      next = state held.next c.files;
+      sound = record { held = held.may; told = sound.told; files = sound.files };
+      left = record { held = held.left; files = p.files ∙ sym f.3 };
+      right = record { held = held.right; files = k.files ∙ sym g.3 };
+    }
+one_answer law c s t (Do (Load name)) r q end other sound p k f g =
+    let held = one_applied law false c.held s.held t.held sound.held p.held k.held f.0 g.0 r q end.held other.held (one_found c s t name f.0 g.0 sound p k f.1 g.1) f.2 g.2 in
     record {
       reply = held.reply;
       next = state held.next c.files;
@@ -218,6 +229,10 @@ one_answer law c s t (Do Waiting) r q end other sound p k f g =
     let here = law.sorts (hashes c.held.kept.waiting) (hashes s.held.kept.waiting) (IsPermutation-map (λ m. m.hash) c.held.kept.waiting s.held.kept.waiting p.held.sets.waiting) in
     let there = law.sorts (hashes c.held.kept.waiting) (hashes t.held.kept.waiting) (IsPermutation-map (λ m. m.hash) c.held.kept.waiting t.held.kept.waiting k.held.sets.waiting) in
     stay c s t r q end other sound p k (f.0 ∙ ap hash_list (here ∙ sym there) ∙ sym g.0) f.1 g.1
+one_answer law c s t (Do History) r q end other sound p k f g =
+    let here = (law.reads c.held.kept.closed s.held.kept.closed sound.held.valid p.held.sets.closed).order in
+    let there = (law.reads c.held.kept.closed t.held.kept.closed sound.held.valid k.held.sets.closed).order in
+    stay c s t r q end other sound p k (f.0 ∙ ap (λ members. history_text (map line_of members)) (here ∙ sym there) ∙ sym g.0) f.1 g.1
 one_answer law c s t (Do (Show named)) r q end other sound p k f g =
     let here = one_read law form.Winners named c.held.kept.closed s.held.kept.closed sound.held.valid p.held.sets.closed in
     let there = one_read law form.Winners named c.held.kept.closed t.held.kept.closed sound.held.valid k.held.sets.closed in
@@ -226,6 +241,7 @@ one_answer law c s t (Do (Conflicts named)) r q end other sound p k f g =
     let here = one_read law form.All named c.held.kept.closed s.held.kept.closed sound.held.valid p.held.sets.closed in
     let there = one_read law form.All named c.held.kept.closed t.held.kept.closed sound.held.valid k.held.sets.closed in
     stay c s t r q end other sound p k (f.0 ∙ here ∙ sym there ∙ sym g.0) f.1 g.1
+one_answer law c s t (Do (Bench count)) r q end other sound p k f g = stay c s t r q end other sound p k (f.0 ∙ sym g.0) f.1 g.1
 one_answer law c s t LongLine r q end other sound p k f g = stay c s t r q end other sound p k (f.0 ∙ sym g.0) f.1 g.1
 one_answer law c s t Syntax r q end other sound p k f g = stay c s t r q end other sound p k (f.0 ∙ sym g.0) f.1 g.1
 one_answer law c s t BadHash r q end other sound p k f g = stay c s t r q end other sound p k (f.0 ∙ sym g.0) f.1 g.1
@@ -236,7 +252,7 @@ same_state : (c s t : State) → SameState c s → SameState c t → SameState s
 same_state c s t p k = record { held = between c.held s.held t.held p.held k.held; files = sym p.files ∙ k.files }
 
 -- as many replies are the same ones, and leave the same to do
-same_front : Laws → (stops : Bool) (c s t : State) (asked : List Asked) (rs qs : List (List ℕ)) (end other : State) (left more : List Asked) → Sound c → SameState c s → SameState c t → Runs stops s asked rs end left → Runs stops t asked qs other more → length rs ≡ length qs → (rs ≡ qs) × SameState end other × (left ≡ more)
+same_front : Laws → (stops : Bool) (c s t : State) (asked : List Request) (rs qs : List (List ℕ)) (end other : State) (left more : List Request) → Sound c → SameState c s → SameState c t → Runs stops s asked rs end left → Runs stops t asked qs other more → length rs ≡ length qs → (rs ≡ qs) × SameState end other × (left ≡ more)
 same_front law stops c s t asked [] [] end other left more sound p k f g n = (refl, same_state c end other (subst (SameState c) (sym f.0) p) (subst (SameState c) (sym g.0) k), f.1 ∙ sym g.1)
 same_front law stops c s t asked [] (q ∷ qs) end other left more sound p k f g n = absurd (omega arith)
 same_front law stops c s t asked (r ∷ rs) [] end other left more sound p k f g n = absurd (omega arith)
@@ -248,7 +264,7 @@ same_front law stops c s t (a ∷ later) (r ∷ rs) (q ∷ qs) end other left mo
     (λ i. step.reply i ∷ rest.0 i, rest.1, rest.2)
 
 -- replies that leave nothing to do are as many
-same_length : Laws → (stops : Bool) (c s t : State) (asked : List Asked) (rs qs : List (List ℕ)) (end other : State) → Sound c → SameState c s → SameState c t → Runs stops s asked rs end [] → Runs stops t asked qs other [] → length rs ≡ length qs
+same_length : Laws → (stops : Bool) (c s t : State) (asked : List Request) (rs qs : List (List ℕ)) (end other : State) → Sound c → SameState c s → SameState c t → Runs stops s asked rs end [] → Runs stops t asked qs other [] → length rs ≡ length qs
 same_length law stops c s t asked [] [] end other sound p k f g = refl
 same_length law stops c s t [] [] (q ∷ qs) end other sound p k f g = absurd g
 same_length law stops c s t (a ∷ later) [] (q ∷ qs) end other sound p k f g = absurd (cc)
@@ -275,12 +291,12 @@ first_sound files = record { held = empty_stored; told = files; files = refl }
 first_same : (files : Files) → SameState (first_state (Some files)) (first_state (Some files))
 first_same files = record { held = same_held nothing_held; files = refl }
 
-pub front : Laws → (stops : Bool) (files : Files) (asked : List Asked) (rs qs : List (List ℕ)) (end other : State) (left more : List Asked) → Runs stops (first_state (Some files)) asked rs end left → Runs stops (first_state (Some files)) asked qs other more → length rs ≡ length qs → (rs ≡ qs) × SameState end other × (left ≡ more)
+pub front : Laws → (stops : Bool) (files : Files) (asked : List Request) (rs qs : List (List ℕ)) (end other : State) (left more : List Request) → Runs stops (first_state (Some files)) asked rs end left → Runs stops (first_state (Some files)) asked qs other more → length rs ≡ length qs → (rs ≡ qs) × SameState end other × (left ≡ more)
 front law stops files asked rs qs end other left more f g n =
     let s = first_state (Some files) in
     same_front law stops s s s asked rs qs end other left more (first_sound files) (first_same files) (first_same files) f g n
 
-pub whole : Laws → (stops : Bool) (files : Files) (asked : List Asked) (rs qs : List (List ℕ)) (end other : State) → Runs stops (first_state (Some files)) asked rs end [] → Runs stops (first_state (Some files)) asked qs other [] → (rs ≡ qs) × SameState end other
+pub whole : Laws → (stops : Bool) (files : Files) (asked : List Request) (rs qs : List (List ℕ)) (end other : State) → Runs stops (first_state (Some files)) asked rs end [] → Runs stops (first_state (Some files)) asked qs other [] → (rs ≡ qs) × SameState end other
 whole law stops files asked rs qs end other f g =
     let s = first_state (Some files) in
     let n = same_length law stops s s s asked rs qs end other (first_sound files) (first_same files) (first_same files) f g in

@@ -10,7 +10,7 @@ use Rattle.am_cli.specs.Replies.{is_absent}
 use Rattle.am_cli.specs.Machine.{Answers, state, names_file, kept_file}
 use Rattle.am_cli.specs.Ends.{FilesStay}
 use Rattle.am_cli.specs.FirstFault.{Ended, is_err_at, is_file_stop}
-use Rattle.am_cli.specs.declared.asked.Asked.{Asked}
+use Rattle.am_cli.specs.declared.request.Request.{Request}
 use Rattle.am_cli.specs.declared.halt.Stop.{Stop}
 use Rattle.am_cli.specs.declared.halt.Stop.TheVariants.{File, NoMemory}
 
@@ -23,7 +23,7 @@ pub record Seen : Type 0 where
 abbrev pub seen : Option Files → ℕ → ℕ → Option Calls → Seen
 seen files misses faults calls = record { files = files; misses = misses; faults = faults; calls = calls }
 
-pub record Answered (asked : Asked) (old : Held) (before : Seen) (result : Result (List ℕ) Stop) (new : Held) (after : Seen) : Type 0 where
+pub record Answered (asked : Request) (old : Held) (before : Seen) (result : Result (List ℕ) Stop) (new : Held) (after : Seen) : Type 0 where
   -- a reply is one that the machine gives
   pub step : IfOk result (λ reply. Answers (state old before.files) asked reply (state new after.files))
   -- it says "absent" only where a miss was counted

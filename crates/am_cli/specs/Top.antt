@@ -1,16 +1,17 @@
 -- What the top call answers.
-use Rattle.std.specs.Prelude.{◌≡◌, ◌≤◌, ℕ, List, [], length, Bool, true, false, Option, None, Some, IfSome, ⊤}
+use Rattle.std.specs.Prelude.{◌≡◌, ◌≤◌, ℕ, List, [], length, map, Bool, true, false, Option, None, Some, IfSome, ⊤}
 use Rattle.std.specs.List.{list_any}
 use Rattle.std.specs.Io.KnownBytes.{IsAtEnd}
 use Rattle.am_outside.specs.Counts.{raised}
 use Rattle.am_outside.specs.Files.{Files}
-use Rattle.am_cli.specs.declared.asked.Asked.{Asked}
+use Rattle.am_script.specs.declared.Plan.{Plan}
+use Rattle.am_script.specs.declared.Plan.TheVariants.{ReadInput, Lines}
+use Rattle.am_cli.specs.declared.request.Request.{Request}
+use Rattle.am_cli.specs.declared.request.Request.TheVariants.{Do}
 use Rattle.am_cli.specs.Script.{all_asked}
 use Rattle.am_cli.specs.Replies.{is_refused}
 use Rattle.am_cli.specs.Machine.{State, first_state}
 use Rattle.am_cli.specs.Carried.{Carried, Stopped}
-use Rattle.am_cli.specs.declared.plan.Plan.{Plan}
-use Rattle.am_cli.specs.declared.plan.Plan.TheVariants.{ReadInput}
 use Rattle.am_cli.specs.declared.halt.Halt.{Halt}
 use Rattle.am_cli.specs.declared.halt.Halt.TheVariants as halt
 use Rattle.am_cli.specs.declared.run.Status.{Status}
@@ -45,8 +46,14 @@ pub record IsWhole (script : List ℕ) (before after : Input) : Type 0 where
   pub taken : after.taken ≡ raised before.taken (length script)
 
 -- what a plan asks for; one reads it in the input
-abbrev pub Asks : Plan → List Asked → Input → Input → Type 0
+abbrev pub Asks : Plan → List Request → Input → Input → Type 0
 Asks ReadInput asked before after = (script : List ℕ) × IsWhole script before after × (asked ≡ all_asked script)
+Asks (Lines commands) asked before after = asked ≡ map Do commands
+
+-- whether nothing more is done after a reply that refuses
+abbrev pub stops_of : Plan → Bool
+stops_of ReadInput = false
+stops_of (Lines commands) = true
 
 -- each command was carried out, and this says whether a reply refuses
 abbrev pub some_is_refused : Status → Option Bool
@@ -82,7 +89,7 @@ IsBefore status.OutputFault = ⊥
 IsBefore status.NoMemory = ⊥
 
 -- each command was carried out, and its reply written whole
-pub record Finished (stops : Bool) (asked : List Asked) (refused : Bool) (before after : Outside) : Type 0 where
+pub record Finished (stops : Bool) (asked : List Request) (refused : Bool) (before after : Outside) : Type 0 where
   pub replies : List (List ℕ)
   pub end : State
   pub carried : Carried stops asked replies [] (first_state before.files) end before.written after.written before.misses after.misses
@@ -90,7 +97,7 @@ pub record Finished (stops : Bool) (asked : List Asked) (refused : Bool) (before
   pub refuses : refused ≡ list_any is_refused replies
 
 -- the run ended within the commands
-abbrev pub Broken : Bool → List Asked → Halt → Outside → Outside → Type 0
+abbrev pub Broken : Bool → List Request → Halt → Outside → Outside → Type 0
 Broken stops asked halt before after = Stopped stops asked halt (first_state before.files) after.files before.written after.written before.misses after.misses
 
 -- the exit status, a number for each way in which a run may end

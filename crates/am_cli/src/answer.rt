@@ -2,25 +2,27 @@
 ghost use Rattle.std.specs.Prelude.{◌≡◌, ◌≤◌, Option, option_map, vec_items, IfOk, IsErrOf, IsNone};
 ghost use Rattle.am_outside.specs.Counts.{Rose};
 ghost use Rattle.am_outside.specs.Files.{Stands};
-ghost use Rattle.am_cli.specs.declared.asked.Asked.TheVariants.{Do};
-ghost use Rattle.am_cli.specs.declared.command.Command.TheVariants.{Frames, Apply};
-ghost use Rattle.am_cli.specs.Asking.{asked_for};
+ghost use Rattle.am_cli.specs.declared.request.Request.TheVariants.{Do};
+ghost use Rattle.am_script.specs.declared.Command.TheVariants.{Frames, Apply, Load};
+ghost use Rattle.am_cli.specs.Request.{request_of};
 ghost use Rattle.am_cli.specs.Session.{Held};
 ghost use Rattle.am_cli.specs.Answered.{Answered, seen};
 ghost use Rattle.am_cli.specs.FirstFault.{Ended, is_err_at, is_file_stop};
 
 use crate::apply::apply;
-use crate::asked::Asking;
-use crate::command::Command;
+use crate::bench::bench;
 use crate::halt::Stop;
 use crate::heads::{list_heads, list_waiting};
+use crate::history::list_history;
 use crate::listing::list_frames;
 use crate::reading::read;
 use crate::replies::refusal;
+use crate::request::RequestRef;
 use crate::saving::{saved, saved_all};
 use crate::session::Session;
 use am_json::Form;
 use am_outside::{FetchFault, Folder};
+use am_script::Command;
 use am_types::{Bytes, Text};
 use std::alloc::Global;
 
@@ -74,33 +76,54 @@ fn applied<F: Folder>(
     }
 }
 
-/// The reply to what is asked for, and what it does to the session.
-#[tactic(auto, using(crate::proofs::Present::reading_is_there, crate::proofs::FirstFault::no_call))]
-pub fn answer<F: Folder>(
+// The reply to load, and what it does to the session.
+#[tactic(auto, using(crate::proofs::Present::applied_is_there))]
+fn loaded<F: Folder>(
     alloc: Global,
-    asking: Asking<'_>,
+    name: &Text,
     session: &mut Session,
     files: &mut F,
 ) -> Result<Bytes, Stop>
-    ensures { Answered (asked_for asking.entry) session.old
+    ensures { Answered (Do (Load name.now)) session.old
         (seen (F.files files.old) (F.misses files.old) (F.faults files.old) (F.calls files.old)) result session.new
         (seen (F.files files.new) (F.misses files.new) (F.faults files.new) (F.calls files.new)) }
 {
-    match asking {
-        Asking::LongLine => Ok(refusal(alloc, "line")?),
-        Asking::Syntax => Ok(refusal(alloc, "syntax")?),
-        Asking::BadHash => Ok(refusal(alloc, "hash")?),
-        Asking::Do(Command::Frames(name)) => frames(alloc, name, files),
-        Asking::Do(Command::Apply(name)) => applied(alloc, name, session, files),
-        Asking::Do(Command::Save(name)) => saved(alloc, name, session, files),
-        Asking::Do(Command::SaveAll(name)) => saved_all(alloc, name, session, files),
-        Asking::Do(Command::Heads) => Ok(list_heads(alloc, session.store())?),
-        Asking::Do(Command::Waiting) => Ok(list_waiting(alloc, session.store())?),
-        Asking::Do(Command::Show(named)) => {
+    match fetched(alloc, name.as_str(), files)? {
+        Some(bytes) => Ok(apply(alloc, session, &bytes, false)?),
+        None => Ok(refusal(alloc, "absent")?),
+    }
+}
+
+/// The reply to what is asked for, and what it does to the session.
+#[tactic(auto, using(crate::proofs::Present::reading_is_there, crate::proofs::Present::bench_is_there, crate::proofs::FirstFault::no_call))]
+pub fn answer<F: Folder>(
+    alloc: Global,
+    request: RequestRef<'_>,
+    session: &mut Session,
+    files: &mut F,
+) -> Result<Bytes, Stop>
+    ensures { Answered (request_of request.entry) session.old
+        (seen (F.files files.old) (F.misses files.old) (F.faults files.old) (F.calls files.old)) result session.new
+        (seen (F.files files.new) (F.misses files.new) (F.faults files.new) (F.calls files.new)) }
+{
+    match request {
+        RequestRef::LongLine => Ok(refusal(alloc, "line")?),
+        RequestRef::Syntax => Ok(refusal(alloc, "syntax")?),
+        RequestRef::BadHash => Ok(refusal(alloc, "hash")?),
+        RequestRef::Do(Command::Frames(name)) => frames(alloc, name, files),
+        RequestRef::Do(Command::Apply(name)) => applied(alloc, name, session, files),
+        RequestRef::Do(Command::Load(name)) => loaded(alloc, name, session, files),
+        RequestRef::Do(Command::Save(name)) => saved(alloc, name, session, files),
+        RequestRef::Do(Command::SaveAll(name)) => saved_all(alloc, name, session, files),
+        RequestRef::Do(Command::Heads) => Ok(list_heads(alloc, session.store())?),
+        RequestRef::Do(Command::Waiting) => Ok(list_waiting(alloc, session.store())?),
+        RequestRef::Do(Command::History) => Ok(list_history(alloc, session.store())?),
+        RequestRef::Do(Command::Show(named)) => {
             Ok(read(alloc, Form::Winners, named.as_slice(), session.store())?)
         }
-        Asking::Do(Command::Conflicts(named)) => {
+        RequestRef::Do(Command::Conflicts(named)) => {
             Ok(read(alloc, Form::All, named.as_slice(), session.store())?)
         }
+        RequestRef::Do(Command::Bench(count)) => Ok(bench(alloc, *count)?),
     }
 }

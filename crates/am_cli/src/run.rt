@@ -1,21 +1,20 @@
 //! The top call.
 ghost use Rattle.std.specs.Prelude.{◌≡◌, ◌≢◌, ◌≤◌, ◌<◌, ◌+◌, ◌↔◌, ◌⊎◌, List as AList, length, IfOk, IfSome, IsErrOf, Some, None, Bool};
 ghost use Rattle.am_outside.specs.Counts.{Rose, RoseBy};
-ghost use Rattle.am_cli.specs.declared.asked.Asked.{Asked as AnAsked};
+ghost use Rattle.am_cli.specs.declared.request.Request.{Request as ARequest};
 ghost use Rattle.am_cli.specs.FirstFault.{Ended, is_err_at, is_failed_read, is_input_fault, is_file_fault, is_output_fault};
-ghost use Rattle.am_cli.specs.Words.{plan_of, stops_of};
-ghost use Rattle.am_cli.specs.Top.{input_of, outside, Asks, Finished, Broken, IsBefore, some_is_refused, halt_of};
+ghost use Rattle.am_script.specs.Plans.{plan_of};
+ghost use Rattle.am_cli.specs.Top.{input_of, outside, stops_of, Asks, Finished, Broken, IsBefore, some_is_refused, halt_of};
 
-use crate::asked::Asked;
 use crate::carry::carry_out;
 use crate::halt::Halt;
 use crate::input::{LONGEST, Unread, read_all};
-use crate::plan::Plan;
+use crate::request::Request;
 use crate::requests::Requests;
 use crate::script::read_script;
 use crate::session::Session;
-use crate::words::plan;
 use am_outside::{Folder, Sink, Source};
+use am_script::{Plan, PlanFault, plan};
 use am_types::{List, Text};
 use std::alloc::Global;
 
@@ -95,7 +94,7 @@ fn carry_all<R: Requests, F: Folder, O: Sink>(
 }
 
 // What the input's lines ask for.
-fn asked_of_input<I: Source>(alloc: Global, input: &mut I) -> Result<List<Asked>, Unread>
+fn asked_of_input<I: Source>(alloc: Global, input: &mut I) -> Result<List<Request>, Unread>
     ensures asks { IfOk result (λ asked. Asks Plan.ReadInput asked (input_of (I.left input.old) (I.taken input.old)) (input_of (I.left input.new) (I.taken input.new))) }
     ensures bound { I.taken input.new ≤ I.taken input.old + (LONGEST + 1) }
     ensures failed { IsErrOf result Unread.Failed → Rose (I.faults input.old) (I.faults input.new) }
@@ -117,14 +116,14 @@ pub fn run<I: Source, F: Folder, O: Sink>(
     out: &mut O,
 ) -> Status
     // Every command was carried out and every reply written, and a reply refuses exactly at SomeRefused.
-    ensures done { (refused : Bool) → some_is_refused result ≡ Some refused → (plan : Plan) × (asked : AList AnAsked)
+    ensures done { (refused : Bool) → some_is_refused result ≡ Some refused → (plan : Plan) × (asked : AList ARequest)
         × (plan_of words.now ≡ Some plan) × Asks plan asked (input_of (I.left input.old) (I.taken input.old)) (input_of (I.left input.new) (I.taken input.new))
         × Finished (stops_of plan) asked refused
         (outside (F.files files.old) (F.misses files.old) (O.written out.old)) (outside (F.files files.new) (F.misses files.new) (O.written out.new)) }
     // A fault came within the commands, or memory was wanting before the first of them and nothing was done.
     ensures stopped { IfSome (halt_of result) (λ halt.
         ((halt ≡ Halt.NoMemory) × (out.new ≡ out.old) × (files.new ≡ files.old))
-        ⊎ ((plan : Plan) × (asked : AList AnAsked)
+        ⊎ ((plan : Plan) × (asked : AList ARequest)
         × (plan_of words.now ≡ Some plan) × Asks plan asked (input_of (I.left input.old) (I.taken input.old)) (input_of (I.left input.new) (I.taken input.new))
         × Broken (stops_of plan) asked halt
         (outside (F.files files.old) (F.misses files.old) (O.written out.old)) (outside (F.files files.new) (F.misses files.new) (O.written out.new)))) }
@@ -132,7 +131,7 @@ pub fn run<I: Source, F: Folder, O: Sink>(
     ensures unkept { IsBefore result → files.new ≡ files.old }
 
     ensures bad { result ≡ Status.BadWords → plan_of words.now ≡ None }
-    ensures unplanned { plan_of words.now ≡ None → result ≡ Status.BadWords }
+    ensures unplanned { plan_of words.now ≡ None → (result ≡ Status.BadWords) ⊎ (result ≡ Status.NoMemory) }
     ensures unread { (plan_of words.now ≢ Some Plan.ReadInput) → input.new ≡ input.old }
     ensures bound { I.taken input.new ≤ I.taken input.old + (LONGEST + 1) }
 
@@ -149,9 +148,11 @@ pub fn run<I: Source, F: Folder, O: Sink>(
     ensures folder_ended { Ended (is_file_fault result) (F.calls files.old) (F.calls files.new) }
     ensures output_ended { Ended (is_output_fault result) (O.calls out.old) (O.calls out.new) }
 {
-    match plan(words) {
-        None => Status::BadWords,
-        Some(Plan::ReadInput) => match asked_of_input(alloc, input) {
+    match plan(alloc, words) {
+        Err(PlanFault::BadWords) => Status::BadWords,
+        Err(PlanFault::NoMemory) => Status::NoMemory,
+        Ok(Plan::Lines(commands)) => carry_all(alloc, true, &commands, files, out),
+        Ok(Plan::ReadInput) => match asked_of_input(alloc, input) {
             Ok(asked) => carry_all(alloc, false, &asked, files, out),
             Err(Unread::Failed) => Status::InputFault,
             Err(Unread::Long) => Status::InputLong,
@@ -162,6 +163,8 @@ pub fn run<I: Source, F: Folder, O: Sink>(
 
 #[cfg(test)]
 mod chunks;
+#[cfg(test)]
+mod forms;
 #[cfg(test)]
 mod limits;
 #[cfg(test)]

@@ -2,8 +2,8 @@
 ghost use Rattle.std.specs.Prelude.{◌≡◌, ◌≤◌, length, IfOk, IsErrOf};
 ghost use Rattle.am_outside.specs.Counts.{Rose};
 ghost use Rattle.am_outside.specs.Files.{SameBut};
-ghost use Rattle.am_cli.specs.declared.asked.Asked.TheVariants.{Do};
-ghost use Rattle.am_cli.specs.declared.command.Command.TheVariants.{Save, SaveAll};
+ghost use Rattle.am_cli.specs.declared.request.Request.TheVariants.{Do};
+ghost use Rattle.am_script.specs.declared.Command.TheVariants.{Save, SaveAll};
 ghost use Rattle.am_cli.specs.Replies.{kept_reply};
 ghost use Rattle.am_cli.specs.Machine.{with_file};
 ghost use Rattle.am_cli.specs.Answered.{Answered, seen};

@@ -10,11 +10,25 @@ pub fn outcome(
     files: &mut MemoryFolder,
     script: Vec<u8>,
 ) -> Result<(Status, MemorySink), Fail> {
-    let mut run_alone = Text::new(alloc);
-    run_alone.push_str("run")?;
+    outcome_of(alloc, &["run"], files, script)
+}
+
+/// How a run of these words ends, with the script as its input, and what it writes.
+pub fn outcome_of(
+    alloc: Global,
+    words: &[&str],
+    files: &mut MemoryFolder,
+    script: Vec<u8>,
+) -> Result<(Status, MemorySink), Fail> {
+    let mut all = Vec::new(alloc);
+    for word in words {
+        let mut text = Text::new(alloc);
+        text.push_str(word)?;
+        all.push(text)?;
+    }
     let mut input = MemorySource::new(script, 4096, Vec::new(alloc));
     let mut out = MemorySink::new(alloc, Vec::new(alloc));
-    let status = run(alloc, &[run_alone], &mut input, files, &mut out);
+    let status = run(alloc, &all, &mut input, files, &mut out);
     Ok((status, out))
 }
 

@@ -1,6 +1,6 @@
 use Rattle.std.proofs.Common.{rules, refl}
-use Rattle.am_cli.specs.declared.asked.Asked.TheVariants.{Do}
-use Rattle.am_cli.specs.declared.command.Command.TheVariants.{SaveAll}
+use Rattle.am_cli.specs.declared.request.Request.TheVariants.{Do}
+use Rattle.am_script.specs.declared.Command.TheVariants.{SaveAll}
 use Rattle.am_cli.proofs.Owed.{keeps}
 use Rattle.am_cli.proofs.saving.saved_all.Goals as goal
 

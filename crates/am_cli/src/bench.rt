@@ -1,0 +1,87 @@
+//! Measuring a document of generated changes.
+ghost use Rattle.std.specs.Prelude.{◌≡◌, ◌≤◌, length, IfOk};
+ghost use Rattle.am_types.specs.Members.{changes};
+ghost use Rattle.am_cli.specs.Bench.{generated, measures_line, measures, measured_as_shown, bench_text};
+
+use crate::reading::read;
+use crate::replies::{push_number, refusal, refuses};
+use am_gen::made;
+use am_json::Form;
+use am_store::Store;
+use am_types::Bytes;
+use std::alloc::{AllocError, Global};
+
+// The most changes that are generated.
+const MOST: u64 = 100_000;
+
+// A store of generated changes alone.
+fn generated(alloc: Global, count: u64) -> Result<Store, AllocError>
+    requires { count ≤ 100000 }
+    ensures { IfOk result (λ store. store.closed ≡ generated count) }
+{
+    let changes = made(alloc, count)?;
+    let mut store = Store::new(alloc)?;
+    store.deliver(alloc, changes)?;
+    Ok(store)
+}
+
+// The line that tells these numbers.
+fn measures_line(
+    alloc: Global,
+    changes: u64,
+    operations: u64,
+    bytes: u64,
+    json: u64,
+) -> Result<Bytes, AllocError>
+    ensures { IfOk result (λ line. line ≡ measures_line changes operations bytes json) }
+{
+    let mut line = Bytes::new(alloc);
+    push_number(alloc, &mut line, "ok changes ", changes)?;
+    push_number(alloc, &mut line, " operations ", operations)?;
+    push_number(alloc, &mut line, " bytes ", bytes)?;
+    push_number(alloc, &mut line, " json ", json)?;
+    line.push_slice(b"\n")?;
+    Ok(line)
+}
+
+// How much a store holds, how long its document is and the text that show prints, which is `shown`.
+fn measures(alloc: Global, store: &Store, shown: &[u8]) -> Result<Bytes, AllocError>
+    ensures { IfOk result (λ reply. reply ≡ measures store.now.closed shown.now) }
+{
+    let counts = store.counts();
+    let bytes = store.save(alloc)?.len() as u64;
+    let json = shown.len().saturating_sub(1) as u64;
+    measures_line(alloc, counts.changes, counts.operations, bytes, json)
+}
+
+// The same, with what show prints. A text that show refuses is refused.
+fn measured(alloc: Global, store: &Store) -> Result<Bytes, AllocError>
+    ensures { IfOk result (λ reply. reply ≡ measured_as_shown store.now.closed) }
+{
+    let shown = read(alloc, Form::Winners, &[], store)?;
+    if refuses(shown.as_slice()) {
+        return Ok(shown);
+    }
+    measures(alloc, store, shown.as_slice())
+}
+
+// The same of generated changes.
+fn measured_changes(alloc: Global, count: u64) -> Result<Bytes, AllocError>
+    requires { count ≤ 100000 }
+    ensures { IfOk result (λ reply. reply ≡ measured_as_shown (generated count)) }
+{
+    let store = generated(alloc, count)?;
+    let reply = measured(alloc, &store)?;
+    Ok(reply)
+}
+
+/// The reply to bench: the measures of a store of so many generated changes. No line asks for more than 100,000.
+pub fn bench(alloc: Global, count: u64) -> Result<Bytes, AllocError>
+    ensures { IfOk result (λ reply. reply ≡ bench_text count) }
+{
+    if count > MOST {
+        return refusal(alloc, "syntax");
+    }
+    let reply = measured_changes(alloc, count)?;
+    Ok(reply)
+}
