@@ -154,14 +154,14 @@ last_member (m ∷ D) (f ∷ g) e is =
     let again = last_member D g e rest in
     (m ∷ again.0, again.1, ap (λ l. m ∷ l) again.2, (λ i. first i ∷ again.3 i), again.4)
 
-deps_stay : (C : List Member) (x : Member) (c : Change) → among hash_cmp c.deps x.hash ≡ false → dependencies (C ++ x ∷ []) c ≡ dependencies C c
+pub deps_stay : (C : List Member) (x : Member) (c : Change) → among hash_cmp c.deps x.hash ≡ false → dependencies (C ++ x ∷ []) c ≡ dependencies C c
 deps_stay C x c f =
     let p : Member → Bool = λ m. among hash_cmp c.deps m.hash in
     let none : filter p (x ∷ []) ≡ [] = simp f refl in
     filter-append p C (x ∷ []) ∙ ap (λ l. filter p C ++ l) none ∙ append-nil (filter p C)
 
 -- tables of the same changes
-table_same : (authors : List (List ℕ)) (A B : List Member) (T : List Reach) → ((m : Member) → Contains A m → Contains B m) → ((m : Member) → Contains B m → Contains A m) → IsTableOf authors A T → IsTableOf authors B T
+pub table_same : (authors : List (List ℕ)) (A B : List Member) (T : List Reach) → ((m : Member) → Contains A m → Contains B m) → ((m : Member) → Contains B m → Contains A m) → IsTableOf authors A T → IsTableOf authors B T
 table_same authors A B T forth back t = record {
   reached = λ m c. t.reached m (back m c);
   seqs = λ a. attained_within authors A B forth (λ m. m.change.seq) a _ (t.seqs a);
@@ -206,14 +206,14 @@ least_join (Some k) hs h l = go (is_gt (hash_cmp k h)) refl
     )
 
 -- one more entry
-at_last : {X : Type 0} (xs : List X) (x d : X) (k : ℕ) → k ≡ length xs → get_or (xs ++ x ∷ []) k d ≡ x
+pub at_last : {X : Type 0} (xs : List X) (x d : X) (k : ℕ) → k ≡ length xs → get_or (xs ++ x ∷ []) k d ≡ x
 at_last xs x d k e = get_or-append_right xs (x ∷ []) (length xs) k d refl (omega arith) ∙ (let z : k - length xs ≡ 0 = omega arith in ap (λ j. get_or (x ∷ []) j d) z)
 
 -- the place is before the last, or the last
 split_last : (k n : ℕ) → k < suc n → (k < n) ⊎ (k ≡ n)
 split_last k n l = elim (cases_order k n) [ inl e ↦ inr e | inr o ↦ elim o [ inl b ↦ inl b | inr b ↦ absurd (omega arith) ] ]
 
-having_push : (g : List (Hash × Node)) (h : Hash) (n : Node) (x : List ℕ) (q : ℕ) → having (g ++ (h, n) ∷ []) x q ≡ having g x q ++ cond (same_bytes x n.actor && n.seq == q) (h ∷ []) []
+pub having_push : (g : List (Hash × Node)) (h : Hash) (n : Node) (x : List ℕ) (q : ℕ) → having (g ++ (h, n) ∷ []) x q ≡ having g x q ++ cond (same_bytes x n.actor && n.seq == q) (h ∷ []) []
 having_push [] h n x q = elim (cases_Bool (same_bytes x n.actor && n.seq == q)) [ inl e ↦ simp e refl | inr e ↦ simp e refl ]
 having_push (e' ∷ g) h n x q =
     let again : having (g ++ (h, n) ∷ []) x q ≡ having g x q ++ cond (same_bytes x n.actor && n.seq == q) (h ∷ []) [] = having_push g h n x q in

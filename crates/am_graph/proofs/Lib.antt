@@ -2,7 +2,9 @@ pub mod Joining
 pub mod Clocking
 pub mod Copying
 pub mod Covered
+pub mod Shorter
 pub mod Depths
+pub mod DistinctSeqs
 pub mod Noting
 pub mod Deepest
 pub mod Growing

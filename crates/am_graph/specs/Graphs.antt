@@ -91,6 +91,10 @@ is_named_in g h = list_any (λ e. names e h) g
 abbrev pub having : List (Hash × Node) → List ℕ → ℕ → List Hash
 having g actor seq = map (λ e. e.0) (filter (λ e. same_bytes actor e.1.actor && e.1.seq == seq) g)
 
+-- no two changes have one author and one seq
+pub record HasDistinctSeqs (g : List (Hash × Node)) : Type 0 where
+  pub once : (actor : List ℕ) (seq : ℕ) → length (having g actor seq) ≤ 1
+
 -- the least of these hashes, or None where there is none
 abbrev pub IsLeast : Option Hash → List Hash → Type 0
 IsLeast None hs = hs ≡ []

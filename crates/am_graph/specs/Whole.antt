@@ -64,3 +64,7 @@ lesser (Some k) h = if is_gt (hash_cmp k h) then h else k
 -- h was noted for the author a and the seq q
 abbrev pub Notes : (ℕ → ℕ → Option Hash) → (ℕ → ℕ → Option Hash) → ℕ → ℕ → Hash → Type 0
 Notes old new a q h = (b r : ℕ) → new b r ≡ (if b == a && r == q then Some (lesser (old b r) h) else old b r)
+
+-- nothing is kept any more for the author a and the seq q
+abbrev pub Forgets : (ℕ → ℕ → Option Hash) → (ℕ → ℕ → Option Hash) → ℕ → ℕ → Type 0
+Forgets old new a q = (b r : ℕ) → new b r ≡ (if b == a && r == q then None else old b r)

@@ -4,6 +4,7 @@
 mod canonical;
 mod clock;
 mod copy;
+mod cutting;
 mod fault;
 mod find;
 mod graph;
@@ -16,6 +17,7 @@ mod tests;
 mod walk;
 
 pub use clock::{Clock, Reached, covers_ancestors_alone};
+pub use cutting::valid_sets_have_distinct_seqs;
 pub use fault::{Added, ClockFault, GraphFault};
 pub use graph::Graph;
 pub use node::Node;

@@ -1,4 +1,4 @@
-use Rattle.std.proofs.Common.{◌≡◌, ◌∙◌, ◌<◌, option_map, length, get_or, ap, sym, Some, arith}
+use Rattle.std.proofs.Common.{◌≡◌, ◌∙◌, ◌<◌, option_map, length, get_or, ap, sym, arith}
 use Rattle.std.specs.List.{position}
 use Rattle.std.specs.Map.{keys_of}
 use Rattle.std.proofs.lemmas.Option.{slice_get-get_or}
