@@ -9,5 +9,6 @@ pub mod Sums
 pub mod Outcomes
 pub mod Fresh
 pub mod Adding
+pub mod Cut
 pub mod Firsts
 pub mod TestSets

@@ -1,9 +1,11 @@
 //! The index of the operations of a set.
-ghost use Rattle.std.specs.Prelude.{◌≡◌, ◌++◌, ◌∷◌, [], OnOk, OnErr, option_map};
+ghost use Rattle.std.specs.Prelude.{◌≡◌, ◌++◌, ◌∷◌, [], List, OnOk, OnErr, option_map};
+ghost use Rattle.am_types.specs.declared.Change.{Change as AChange};
 ghost use Rattle.am_types.specs.Views.{id_of};
 ghost use Rattle.am_fits.specs.Facts.{fact_with};
 ghost use Rattle.am_fits.specs.Indexes.{index_of, index_with, ForChanges, MayAdmit};
 ghost use Rattle.am_fits.specs.Shown.{fact_shown};
+ghost use Rattle.am_fits.specs.Sums.{totals_of};
 
 use crate::seen::Seen;
 use crate::table::Table;
@@ -60,6 +62,14 @@ impl OpIndex {
         self.table.add(alloc, change)?;
         self.totals = totals;
         Ok(())
+    }
+
+    /// Keeps the changes that were taken in first and have these totals. It takes no memory.
+    pub fn cut(&mut self, totals: Totals)
+        ensures { (kept others : List AChange) → self.old ≡ index_of (kept ++ others) → totals ≡ totals_of kept → self.new ≡ index_of kept }
+    {
+        self.table.cut(totals.operations as usize);
+        self.totals = totals;
     }
 
     /// What is said of the operation with the id.

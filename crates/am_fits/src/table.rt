@@ -1,5 +1,5 @@
 //! What an index keeps of operations: small keys in place of ids and names.
-ghost use Rattle.std.specs.Prelude.{◌≡◌, ◌++◌, ◌∷◌, ◌+◌, ◌≤◌, ◌^◌, [], All, List, length, map, option_map, IfOk, OnOk, OnErr, None, Some};
+ghost use Rattle.std.specs.Prelude.{◌≡◌, ◌++◌, ◌∷◌, ◌+◌, ◌≤◌, ◌^◌, [], All, List, length, map, take, option_map, IfOk, OnOk, OnErr, None, Some};
 ghost use Rattle.am_types.specs.declared.OpId.{OpId};
 ghost use Rattle.am_types.specs.Operations.{operations, slot};
 ghost use Rattle.am_types.specs.Views.{id_of, object_of};
@@ -246,6 +246,15 @@ impl Table {
         let kept = self.texts.kept(alloc, key, op)?;
         self.kept.insert(key, kept)?;
         Ok(())
+    }
+
+    /// Keeps the operations that came first, so many of them.
+    pub fn cut(&mut self, count: usize)
+        requires { IsTable self.old }
+        ensures table { IsTable self.new }
+        ensures facts { facts_in self.new ≡ take count (facts_in self.old) }
+    {
+        self.kept.truncate(count);
     }
 
     /// An equal table.
