@@ -2,12 +2,14 @@
 --     Leaves s C W        the closed set is C and the waiting set is W, in some order, and nothing is rejected
 --     NoneClash D         one hash, one member; one actor and seq, one member; and D is within the limits
 --     AreMembers D Ls     D has just the members of the deliveries Ls
-use Rattle.std.specs.Prelude.{◌≡◌, ◌≤◌, ◌+◌, ◌↔◌, false, List, [], ◌++◌, length, flat_map, None, All, Contains, IsPermutation}
+use Rattle.std.specs.Prelude.{◌≡◌, ◌≤◌, ◌+◌, ◌↔◌, false, List, [], ◌∷◌, ◌++◌, length, flat_map, None, All, Contains, IsPermutation}
+use Rattle.std.specs.Ordering.{on}
 use Rattle.am_types.specs.declared.Hash.{Hash}
+use Rattle.am_types.specs.Order.{hash_cmp, sorted_by}
 use Rattle.am_types.specs.Members.{Member, changes, holds_deps, DepsFirst, DistinctHashes}
 use Rattle.am_types.specs.Ancestors.{ancestors}
 use Rattle.am_types.specs.Verdicts.{limit_passed}
-use Rattle.am_types.specs.ValidSets.{Valid, JoinInTurn, IsGreatest}
+use Rattle.am_types.specs.ValidSets.{Valid, Joins, JoinInTurn, IsGreatest}
 use Rattle.am_types.specs.Deliver.{Sets, deliver, IsSettled, MayCome, AreStored, Alike, StandFor}
 
 pub record Leaves (s : Sets) (C W : List Member) : Type 0 where
@@ -32,6 +34,10 @@ FitsInEveryListing = (S L : List Member) → Valid S → IsPermutation S L → D
 -- a valid set that is delivered in any order is the closed set
 abbrev pub ComesBack : Type 0
 ComesBack = (S L : List Member) → Valid S → IsPermutation S L → Leaves (deliver [] [] L) S []
+
+-- a valid set with a member that joins it is valid
+abbrev pub JoinedIsValid : Type 0
+JoinedIsValid = (C : List Member) (m : Member) → Valid C → Joins C m → Valid (C ++ m ∷ [])
 
 -- the ancestors of any hashes in a valid set are a valid set
 abbrev pub PartIsValid : Type 0
@@ -75,3 +81,7 @@ ListingIsFree = (C D V W L : List Member) → AreStored C V → IsPermutation C 
 abbrev pub HeldIsSkipped : Type 0
 HeldIsSkipped = (C W L : List Member) → AreStored C W → All (Contains (C ++ W)) L
     → deliver C W L ≡ record { closed = C; waiting = W; rejected = [] }
+
+-- sorted by hash, the waiting members are one list, however they are listed
+abbrev pub WaitingSortsAlike : Type 0
+WaitingSortsAlike = (C V W : List Member) → AreStored C V → IsPermutation V W → sorted_by (on (λ m. m.hash) hash_cmp) W ≡ sorted_by (on (λ m. m.hash) hash_cmp) V

@@ -43,7 +43,7 @@ fn admit_next<S: Closed>(
     ensures one { let old : Sets = record { closed = S.members closed.old; waiting = remaining (vec_items gone.old) (waiting_of waiting.now); rejected = vec_items rejected.old } in
         let new : Sets = record { closed = S.members closed.new; waiting = remaining (vec_items gone.new) (waiting_of waiting.now); rejected = vec_items rejected.new } in
         IfOk result (λ taken. MatchBool taken (TakesOne old new) ((new ≡ old) × IsSettled old)) }
-    ensures base { OnOk result (S.base closed.new ≡ S.base closed.old) }
+    ensures base { S.base closed.new ≡ S.base closed.old }
 {
     let _count = waiting.len();
     let Some(hash) = pending.pop() else {
@@ -79,7 +79,7 @@ pub fn settle_all<S: Closed>(
     ensures settles { let old : Sets = record { closed = S.members closed.old; waiting = waiting_of waiting.now; rejected = vec_items rejected.old } in
         IfOk result (λ gone. ◌≡◌ {A = Sets} (record { closed = S.members closed.new; waiting = remaining (vec_items gone) (waiting_of waiting.now); rejected = vec_items rejected.new }) (settle old)) }
     ensures tracks { IfOk result (λ gone. Tracks (S.members closed.new) (remaining (vec_items gone) (waiting_of waiting.now)) (tracker pending.new)) }
-    ensures base { OnOk result (S.base closed.new ≡ S.base closed.old) }
+    ensures base { S.base closed.new ≡ S.base closed.old }
 {
     let mut gone = Vec::new(alloc);
     while admit_next(alloc, closed, waiting, &mut gone, pending, rejected)? {}

@@ -32,10 +32,10 @@ pub trait Closed {
         requires fine { Fine change.now }
         ensures { IfOk result (λ answer. answer ≡ verdict (members self.now) change.now) };
 
-    /// Takes a change in.
+    /// Takes a change in. Without memory nothing is said of what the members have become, but what stays has stayed.
     fn join(&mut self, alloc: Global, hash: Hash, change: &Change) -> Result<(), AllocError>
         requires valid { Valid (members self.old) }
         requires joins { Joins (members self.old) (record { hash = hash; change = change.now }) }
         ensures joined { OnOk result (members self.new ≡ members self.old ++ record { hash = hash; change = change.now } ∷ []) }
-        ensures base { OnOk result (base self.new ≡ base self.old) };
+        ensures base { base self.new ≡ base self.old };
 }

@@ -75,7 +75,7 @@ fn take_in<S: Closed>(
     ensures waiting { IfOk result (λ o. IsPermutation (delivered (S.members closed.old) (waiting_of waiting.old) (members_of (vec_items changes))).waiting (remaining (vec_items o.gone) (waiting_of waiting.new))) }
     ensures rejected { IfOk result (λ o. vec_items o.rejected ≡ (delivered (S.members closed.old) (waiting_of waiting.old) (members_of (vec_items changes))).rejected) }
     ensures stored { IfOk result (λ o. AreStored (S.members closed.new) (remaining (vec_items o.gone) (waiting_of waiting.new))) }
-    ensures base { OnOk result (S.base closed.new ≡ S.base closed.old) }
+    ensures base { S.base closed.new ≡ S.base closed.old }
     ensures tracks { IfOk result (λ o. Tracks (S.members closed.new) (remaining (vec_items o.gone) (waiting_of waiting.new)) (tracker pending.new)) }
     ensures kept { remaining (vec_items came.new) (waiting_of waiting.new) ≡ remaining (vec_items came.old) (waiting_of waiting.old) }
 {
@@ -98,8 +98,8 @@ fn take_in<S: Closed>(
 /// wait. Then the ready changes, the one of least hash first, join the closed set or are rejected, until none is ready.
 /// What the waiting changes lack is kept in `pending` from delivery to delivery. It takes time in proportion to n log n,
 /// where n changes and dependencies come or wait no longer, beside what the closed set takes; where nothing is kept, all
-/// waiting changes count. Without memory the same changes wait as before, nothing is kept of what they lack, and nothing
-/// is said of what the closed set has become.
+/// waiting changes count. Without memory the same changes wait as before, nothing is kept of what they lack, and of the
+/// closed set only what stays is known.
 pub fn deliver<S: Closed>(
     alloc: Global,
     closed: &mut S,
@@ -115,7 +115,7 @@ pub fn deliver<S: Closed>(
     ensures rejected { IfOk result (λ reports. reports ≡ (delivered (S.members closed.old) (waiting_of waiting.old) (members_of (vec_items changes))).rejected) }
     ensures stored { OnOk result (AreStored (S.members closed.new) (waiting_of waiting.new)) }
     ensures tracked { OnOk result (IsTracked (S.members closed.new) (waiting_of waiting.new) pending.new) }
-    ensures base { OnOk result (S.base closed.new ≡ S.base closed.old) }
+    ensures base { S.base closed.new ≡ S.base closed.old }
     ensures err { OnErr result (waiting_of waiting.new ≡ waiting_of waiting.old) }
     ensures unknown { OnErr result (pending.new ≡ None) }
 {

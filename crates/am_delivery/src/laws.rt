@@ -1,5 +1,5 @@
 //! Laws of validity and delivery. Each function does nothing; its contract is the law.
-ghost use Rattle.am_delivery.specs.Laws.{FitsInEveryListing, ComesBack, PartIsValid, RestCompletes, BothComeBack, OrderIsFree, StaysStored, ListingIsFree, HeldIsSkipped, KeepsWhatCame, JoinsNoMore};
+ghost use Rattle.am_delivery.specs.Laws.{FitsInEveryListing, ComesBack, PartIsValid, RestCompletes, BothComeBack, OrderIsFree, StaysStored, ListingIsFree, HeldIsSkipped, KeepsWhatCame, JoinsNoMore, JoinedIsValid, WaitingSortsAlike};
 
 /// In a valid set each change fits those before it, in every listing with dependencies first.
 pub fn fits_in_every_listing()
@@ -9,6 +9,11 @@ pub fn fits_in_every_listing()
 /// A valid set that is delivered to empty sets in any order is the closed set, and nothing is rejected.
 pub fn comes_back()
     ensures { ComesBack }
+{}
+
+/// A valid set with a change that joins it is valid.
+pub fn joined_is_valid()
+    ensures { JoinedIsValid }
 {}
 
 /// The ancestors of any hashes in a valid set are a valid set.
@@ -56,4 +61,9 @@ pub fn keeps_what_came()
 /// A delivery leaves no more closed changes than there were and came.
 pub fn joins_no_more()
     ensures { JoinsNoMore }
+{}
+
+/// Sorted by hash, the waiting changes are one list, however they are listed.
+pub fn waiting_sorts_alike()
+    ensures { WaitingSortsAlike }
 {}
