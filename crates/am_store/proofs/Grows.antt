@@ -1,16 +1,20 @@
 -- A closed set with one more change.
-use Rattle.std.proofs.Common.{◌≡◌, List, [], ◌∷◌, ◌++◌, false, cond, sym, ap, ◌∙◌}
-use Rattle.std.proofs.lemmas.List.{map-append, append_assoc}
+use Rattle.std.proofs.Common.{ℕ, ◌≡◌, List, [], ◌∷◌, ◌++◌, length, take, false, cond, Result, Ok, Err, sym, ap, ◌∙◌, subst}
+use Rattle.std.specs.Prelude.{OnOk, OnErr}
+use Rattle.std.proofs.lemmas.List.{map-append, append_assoc, length-map, take_at}
 use Rattle.am_types.specs.declared.Hash.{Hash}
 use Rattle.am_types.specs.declared.Change.{Change}
 use Rattle.am_types.specs.Members.{Member, changes}
+use Rattle.am_types.specs.ValidSets.{Valid, Joins}
 use Rattle.am_graph.specs.declared.Node.{Node}
-use Rattle.am_graph.specs.Graphs.{node_of, is_held}
+use Rattle.am_graph.specs.Graphs.{node_of, nodes, is_held}
 use Rattle.am_graph.proofs.Held.{is_held-nodes}
+use Rattle.am_fits.specs.declared.Totals.{Totals}
 use Rattle.am_fits.specs.Indexes.{Indexed, AreOf, MayAdmit, index_of}
 use Rattle.am_delivery.specs.Waiting.{member_of, members_of}
+use Rattle.am_delivery.specs.Laws.{JoinedIsValid}
 use Rattle.am_delivery.proofs.Steady.{valid_push}
-use Rattle.am_store.specs.Grown.{MayGrow}
+use Rattle.am_store.specs.Grown.{AreGrown, MayGrow}
 
 pub may_admit : (g : List (Hash × Node)) (ix : Indexed) (m : Member) → MayGrow g ix m → MayAdmit ix m.change
 may_admit g ix m may = record {
@@ -36,3 +40,34 @@ grown g h ix iy m fresh added admitted C of = record {
 -- one more entry is one more member
 pub more_members : (old fresh : List (Hash × Change)) (x : Hash × Change) → members_of (old ++ (fresh ++ x ∷ [])) ≡ members_of (old ++ fresh) ++ member_of x ∷ []
 more_members old fresh x = ap members_of (sym (append_assoc old fresh (x ∷ []))) ∙ map-append member_of (old ++ fresh) (x ∷ [])
+
+-- one more change has joined
+pub grown_more : JoinedIsValid → (old fresh more : List (Hash × Change)) (x : Hash × Change) (g h : List (Hash × Node)) (ix iy : Indexed) (t : Totals) → AreGrown old fresh g ix t → Joins (members_of (old ++ fresh)) (member_of x)
+    → more ≡ fresh ++ x ∷ [] → ((C : List Member) → AreOf C g ix → AreOf (C ++ member_of x ∷ []) h iy) → AreGrown old more h iy t
+grown_more law old fresh more x g h ix iy t are joins e adds =
+    let all : members_of (old ++ more) ≡ members_of (old ++ fresh) ++ member_of x ∷ [] = ap (λ l. members_of (old ++ l)) e ∙ more_members old fresh x in
+    record {
+      of_set = subst (λ C. AreOf C h iy) (sym all) (adds (members_of (old ++ fresh)) are.of_set);
+      valid = subst Valid (sym all) (law (members_of (old ++ fresh)) (member_of x) are.valid joins);
+      totals = are.totals;
+    }
+
+-- ---- what has joined is cut off
+
+both : (old fresh : List (Hash × Change)) → members_of (old ++ fresh) ≡ members_of old ++ members_of fresh
+both old fresh = map-append member_of old fresh
+
+pub cut_graph : (old fresh : List (Hash × Change)) (g h : List (Hash × Node)) (n : ℕ) → n ≡ length old → g ≡ nodes (members_of (old ++ fresh)) → h ≡ take n g → h ≡ nodes (members_of old)
+cut_graph old fresh g h n count is cut =
+    let told : Member → Hash × Node = λ m. (m.hash, node_of m.change) in
+    let split : g ≡ nodes (members_of old) ++ nodes (members_of fresh) = is ∙ ap nodes (both old fresh) ∙ map-append told (members_of old) (members_of fresh) in
+    let first : length (nodes (members_of old)) ≡ n = length-map (members_of old) told ∙ length-map old member_of ∙ sym count in
+    cut ∙ ap (take n) split ∙ take_at (nodes (members_of old)) (nodes (members_of fresh)) n first
+
+pub two_parts : (old fresh : List (Hash × Change)) (ix : Indexed) → ix ≡ index_of (changes (members_of (old ++ fresh))) → ix ≡ index_of (changes (members_of old) ++ changes (members_of fresh))
+two_parts old fresh ix e = e ∙ ap (λ C. index_of (changes C)) (both old fresh) ∙ ap index_of (map-append (λ (m : Member). m.change) (members_of old) (members_of fresh))
+
+-- the call went well, or nothing has changed
+pub by_result : {T E A B C D F P : Type 0} (r : Result T E) → OnOk r A → OnOk r B → OnErr r C → OnErr r D → OnErr r F → (A → B → P) → (C → D → F → P) → P
+by_result (Ok x) a b c d e f g = f a b
+by_result (Err x) a b c d e f g = g c d e

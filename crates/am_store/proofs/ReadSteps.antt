@@ -1,6 +1,6 @@
 -- A file is read chunk by chunk.
 use Rattle.std.proofs.lemmas.Grind.{flat_map-append}
-use Rattle.std.proofs.Common.{ℕ, arith, ◌≡◌, ◌<◌, ◌+◌, List, [], ◌∷◌, ◌++◌, length, flat_map, Bool, All, refl, sym, ap, ◌∙◌, subst}
+use Rattle.std.proofs.Common.{ℕ, arith, ◌≡◌, ◌<◌, ◌+◌, List, [], ◌∷◌, ◌++◌, length, map, flat_map, Bool, All, refl, sym, ap, ◌∙◌, subst}
 use Rattle.std.specs.List.{AllZip}
 use Rattle.std.proofs.lemmas.List.{map-append, append_assoc, append-nil, length-map}
 use Rattle.std.proofs.lemmas.List.Elements.{All-nil, All-push}
@@ -18,7 +18,7 @@ use Rattle.am_store.specs.declared.fault.ReadFault.{ReadFault}
 use Rattle.am_store.specs.declared.fault.ReadFault.TheVariants as read_fault
 use Rattle.am_store.specs.Whole.{MatchLoad}
 use Rattle.am_store.specs.Kept.{own_hash, with_hash, with_hashes}
-use Rattle.am_store.specs.Files.{Holds, HasFault, FirstBad}
+use Rattle.am_store.specs.Files.{HoldsChange, Holds, HasFault, FirstBad}
 use Rattle.am_store.specs.Reading.{HasRead, changes_of}
 
 zip_push : {A B : Type 0} (R : A → B → Type 0) (xs : List A) (ys : List B) (x : A) (y : B) → AllZip R xs ys → R x y → AllZip R (xs ++ x ∷ []) (ys ++ y ∷ [])
@@ -51,7 +51,7 @@ read_more bytes mid rest pairs h c r e is fine own hashed =
       chunks = r.chunks ++ k ∷ [];
       bytes_are = r.bytes_are ∙ ap (λ b. flat_map chunk_bytes r.chunks ++ b) e ∙ bytes_more r.chunks k rest;
       each = All-push IsChunk r.chunks k r.each is;
-      hold = subst (AllZip Holds (r.chunks ++ k ∷ [])) (sym listed) (zip_push Holds r.chunks (changes_of pairs) k c r.hold (record { kind = refl; fine = fine; contents_are = refl }));
+      hold = subst (AllZip HoldsChange (r.chunks ++ k ∷ [])) (sym listed) (zip_push HoldsChange r.chunks (changes_of pairs) k c r.hold (record { kind = refl; fine = fine; contents_are = refl }));
       own_hashes =
           let one : member_of (h, c) ≡ with_hash c = (λ i. record { hash = own i; change = c }) in
           let others : with_hashes (changes_of pairs ++ c ∷ []) ≡ with_hashes (changes_of pairs) ++ with_hash c ∷ [] = map-append with_hash (changes_of pairs) (c ∷ []) in
@@ -59,17 +59,31 @@ read_more bytes mid rest pairs h c r e is fine own hashed =
       may_come = subst (All MayCome) (sym members) (All-push MayCome (members_of pairs) (member_of (h, c)) r.may_come (record { hash = hashed; fine = fine }));
     }
 
+-- each change by itself
+abbrev pub singles : List Change → List (List Change)
+singles cs = map (λ c. c ∷ []) cs
+
+pub hold_singles : (only : Bool) (ks : List Chunk) (cs : List Change) → AllZip HoldsChange ks cs → AllZip (Holds only) ks (singles cs)
+hold_singles only [] [] z = tt
+hold_singles only [] (c ∷ cs) z = absurd z
+hold_singles only (k ∷ ks) [] z = absurd z
+hold_singles only (k ∷ ks) (c ∷ cs) z = ((c, z.0, refl), hold_singles only ks cs z.1)
+
+pub join_singles : (cs : List Change) → cs ≡ flat_map (λ l. l) (singles cs)
+join_singles [] = refl
+join_singles (c ∷ cs) = ap (λ l. c ∷ l) (join_singles cs)
+
 pub first_bad : (only : Bool) (bytes rest : List ℕ) (pairs : List (Hash × Change)) (k : ℕ) (fault : LoadFault) → HasRead bytes rest pairs → 0 < length rest → HasFault only rest fault → k ≡ length pairs + 1 → FirstBad only bytes k fault
 first_bad only bytes rest pairs k fault r more bad e = record {
   before = r.chunks;
-  changes = changes_of pairs;
+  lists = singles (changes_of pairs);
   rest = rest;
   bytes_are = r.bytes_are;
   each = r.each;
-  hold = r.hold;
+  hold = hold_singles only r.chunks (changes_of pairs) r.hold;
   more = more;
   bad = bad;
-  number = let a = length_zip Holds r.chunks (changes_of pairs) r.hold in let b = length-map pairs (λ (p : Hash × Change). p.1) in omega arith;
+  number = let a = length_zip HoldsChange r.chunks (changes_of pairs) r.hold in let b = length-map pairs (λ (p : Hash × Change). p.1) in omega arith;
 }
 
 pub all_read : (bytes rest : List ℕ) (pairs : List (Hash × Change)) → rest ≡ [] → HasRead bytes rest pairs → HasRead bytes [] pairs

@@ -17,6 +17,7 @@ use Rattle.am_delivery.specs.Waiting.{member_of, members_of, waiting_of, IsTrack
 use Rattle.am_delivery.specs.declared.Pending.{Pending}
 use Rattle.am_store.specs.Kept.{IsKept, Takes, with_hash, with_hashes}
 use Rattle.am_store.specs.Files.{IsFile}
+use Rattle.am_store.proofs.ReadSteps.{singles, hold_singles, join_singles}
 use Rattle.am_store.specs.Reading.{HasRead, changes_of}
 
 abbrev IsOwn : Member → Type 0
@@ -110,6 +111,8 @@ module _ (old : List (Hash × Change)) (w v : BTreeMap Hash Change) (copied : v.
 pub file_read : (only : Rattle.std.proofs.Common.Bool) (bytes : List ℕ) (pairs : List (Hash × Change)) → HasRead bytes [] pairs → IsFile only bytes (changes_of pairs)
 file_read only bytes pairs r = record {
   chunks = r.chunks;
+  lists = singles (changes_of pairs);
   file = record { bytes_are = r.bytes_are ∙ append-nil _; each = r.each };
-  hold = r.hold;
+  hold = hold_singles only r.chunks (changes_of pairs) r.hold;
+  are = join_singles (changes_of pairs);
 }

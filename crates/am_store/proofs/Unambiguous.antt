@@ -19,7 +19,7 @@ use Rattle.am_change.specs.Fronts.{IsCompressed}
 use Rattle.am_change.specs.Judgement.{Judges}
 use Rattle.am_store.specs.declared.fault.LoadFault.{LoadFault}
 use Rattle.am_store.specs.declared.fault.LoadFault.TheVariants.{BadMagic, Truncated, BadLength, BadChecksum, ChunkType, CompressedChunk, DocumentHere, CompressedColumn, BadChange}
-use Rattle.am_store.specs.Files.{Holds, Begins, AreOfNoChange, HasFault, FirstBad}
+use Rattle.am_store.specs.Files.{HoldsChange, Holds, Begins, AreOfNoChange, RefusesDocument, HasFault, FirstBad}
 use Rattle.am_store.specs.Laws.{OneReading}
 
 no_memory_is_not_read : (c : Change) → Ok c ≡ Err change_fault.NoMemory → ⊥
@@ -55,11 +55,11 @@ module _ (tells : TellsChanges) (judges : JudgesOnce) where
   ]
 
   -- the contents of a chunk that a bad one would be
-  held_contents : (kind : ℕ) (P : List ℕ → Type 0) (bytes : List ℕ) (k : Chunk) (c : Change) (rest : List ℕ) → IsChunk k → Holds k c → bytes ≡ chunk_bytes k ++ rest → (b : Begins kind P bytes) → b.contents ≡ contents c
+  held_contents : (kind : ℕ) (P : List ℕ → Type 0) (bytes : List ℕ) (k : Chunk) (c : Change) (rest : List ℕ) → IsChunk k → HoldsChange k c → bytes ≡ chunk_bytes k ++ rest → (b : Begins kind P bytes) → b.contents ≡ contents c
   held_contents kind P bytes k c rest is h e b = ap (λ (q : Chunk). q.contents) (first_is kind P bytes k rest is e b) ∙ h.contents_are
 
   -- nothing is wrong with the chunk of a fine change
-  clean : (only : Bool) (bytes : List ℕ) (k : Chunk) (c : Change) (rest : List ℕ) (f : LoadFault) → IsChunk k → Holds k c → bytes ≡ chunk_bytes k ++ rest → HasFault only bytes f → ⊥
+  clean : (only : Bool) (bytes : List ℕ) (k : Chunk) (c : Change) (rest : List ℕ) (f : LoadFault) → IsChunk k → HoldsChange k c → bytes ≡ chunk_bytes k ++ rest → HasFault only bytes f → ⊥
   clean only bytes k c rest BadMagic is h e x = none_at_a_chunk bytes k rest frame_fault.BadMagic is e x
   clean only bytes k c rest Truncated is h e x = none_at_a_chunk bytes k rest frame_fault.Truncated is e x
   clean only bytes k c rest BadLength is h e x = none_at_a_chunk bytes k rest frame_fault.BadLength is e x
@@ -67,7 +67,7 @@ module _ (tells : TellsChanges) (judges : JudgesOnce) where
   clean only bytes k c rest (ChunkType type) is h e x = none_at_a_chunk bytes k rest (frame_fault.ChunkType type) is e x
   clean only bytes k c rest CompressedChunk is h e x = none_at_a_chunk bytes k rest frame_fault.CompressedChunk is e x
   clean only bytes k c rest DocumentHere is h e x =
-      let kinds : 0 ≡ k.kind = ap (λ (q : Chunk). q.kind) (first_is 0 (λ contents. ⊤) bytes k rest is e x) in
+      let kinds : 0 ≡ k.kind = ap (λ (q : Chunk). q.kind) (first_is 0 (RefusesDocument only) bytes k rest is e x) in
       let one = h.kind in
       absurd (omega arith)
   clean only bytes k c rest CompressedColumn is h e x =
@@ -80,13 +80,13 @@ module _ (tells : TellsChanges) (judges : JudgesOnce) where
   rest_of : (k : Chunk) (ks : List Chunk) (r : List ℕ) → flat_map chunk_bytes (k ∷ ks) ++ r ≡ chunk_bytes k ++ (flat_map chunk_bytes ks ++ r)
   rest_of k ks r = append_assoc (chunk_bytes k) (flat_map chunk_bytes ks) r
 
-  agree : (only : Bool) (xs ys : List Chunk) (cs ds : List Change) (r q : List ℕ) (f g : LoadFault) → All IsChunk xs → All IsChunk ys → AllZip Holds xs cs → AllZip Holds ys ds
+  agree : (only : Bool) (xs ys : List Chunk) (cs ds : List (List Change)) (r q : List ℕ) (f g : LoadFault) → All IsChunk xs → All IsChunk ys → AllZip (Holds only) xs cs → AllZip (Holds only) ys ds
       → flat_map chunk_bytes xs ++ r ≡ flat_map chunk_bytes ys ++ q → HasFault only r f → HasFault only q g → (length xs ≡ length ys) × (r ≡ q)
   agree only [] [] cs ds r q f g a b z w e x y = (refl, e)
   agree only [] (k ∷ ys) cs [] r q f g a b z w e x y = absurd w
-  agree only [] (k ∷ ys) cs (d ∷ ds) r q f g a b z w e x y = absurd (clean only r k d (flat_map chunk_bytes ys ++ q) f (All-head IsChunk k ys b) w.0 (e ∙ rest_of k ys q) x)
+  agree only [] (k ∷ ys) cs (d ∷ ds) r q f g a b z w e x y = absurd (clean only r k w.0.0 (flat_map chunk_bytes ys ++ q) f (All-head IsChunk k ys b) w.0.1 (e ∙ rest_of k ys q) x)
   agree only (k ∷ xs) [] [] ds r q f g a b z w e x y = absurd z
-  agree only (k ∷ xs) [] (c ∷ cs) ds r q f g a b z w e x y = absurd (clean only q k c (flat_map chunk_bytes xs ++ r) g (All-head IsChunk k xs a) z.0 (sym e ∙ rest_of k xs r) y)
+  agree only (k ∷ xs) [] (c ∷ cs) ds r q f g a b z w e x y = absurd (clean only q k z.0.0 (flat_map chunk_bytes xs ++ r) g (All-head IsChunk k xs a) z.0.1 (sym e ∙ rest_of k xs r) y)
   agree only (k ∷ xs) (l ∷ ys) [] ds r q f g a b z w e x y = absurd z
   agree only (k ∷ xs) (l ∷ ys) (c ∷ cs) [] r q f g a b z w e x y = absurd w
   agree only (k ∷ xs) (l ∷ ys) (c ∷ cs) (d ∷ ds) r q f g a b z w e x y =
@@ -94,29 +94,30 @@ module _ (tells : TellsChanges) (judges : JudgesOnce) where
       let again = agree only xs ys cs ds r q f g (All-tail IsChunk k xs a) (All-tail IsChunk l ys b) z.1 w.1 step.1 x y in
       (ap suc again.0, again.1)
 
-  never : (only : Bool) (xs ys : List Chunk) (cs ds : List Change) (r : List ℕ) (f : LoadFault) → All IsChunk xs → All IsChunk ys → AllZip Holds xs cs → AllZip Holds ys ds
+  never : (only : Bool) (xs ys : List Chunk) (cs ds : List (List Change)) (r : List ℕ) (f : LoadFault) → All IsChunk xs → All IsChunk ys → AllZip (Holds only) xs cs → AllZip (Holds only) ys ds
       → flat_map chunk_bytes xs ≡ flat_map chunk_bytes ys ++ r → 0 < length r → HasFault only r f → ⊥
   never only [] [] cs ds r f a b z w e more x = let none = ap length e in absurd (omega arith)
   never only [] (l ∷ ys) cs ds r f a b z w e more x = no_more l (flat_map chunk_bytes ys ++ r) (e ∙ rest_of l ys r)
   never only (k ∷ xs) [] [] ds r f a b z w e more x = absurd z
-  never only (k ∷ xs) [] (c ∷ cs) ds r f a b z w e more x = clean only r k c (flat_map chunk_bytes xs) f (All-head IsChunk k xs a) z.0 (sym e) x
+  never only (k ∷ xs) [] (c ∷ cs) ds r f a b z w e more x = clean only r k z.0.0 (flat_map chunk_bytes xs) f (All-head IsChunk k xs a) z.0.1 (sym e) x
   never only (k ∷ xs) (l ∷ ys) [] ds r f a b z w e more x = absurd z
   never only (k ∷ xs) (l ∷ ys) (c ∷ cs) [] r f a b z w e more x = absurd w
   never only (k ∷ xs) (l ∷ ys) (c ∷ cs) (d ∷ ds) r f a b z w e more x =
       let step = one_chunk k l (flat_map chunk_bytes xs) (flat_map chunk_bytes ys ++ r) (All-head IsChunk k xs a) (All-head IsChunk l ys b) (e ∙ rest_of l ys r) in
       never only xs ys cs ds r f (All-tail IsChunk k xs a) (All-tail IsChunk l ys b) z.1 w.1 step.1 more x
 
-  same_changes : (ks : List Chunk) (cs ds : List Change) → All IsChunk ks → AllZip Holds ks cs → AllZip Holds ks ds → cs ≡ ds
-  same_changes [] [] [] a z w = refl
-  same_changes [] [] (d ∷ ds) a z w = absurd w
-  same_changes [] (c ∷ cs) ds a z w = absurd z
-  same_changes (k ∷ ks) [] ds a z w = absurd z
-  same_changes (k ∷ ks) (c ∷ cs) [] a z w = absurd w
-  same_changes (k ∷ ks) (c ∷ cs) (d ∷ ds) a z w =
-      let short = subst (λ b. length b < 2 ^ 64) z.0.contents_are (All-head IsChunk k ks a).1 in
-      let one = tells c d z.0.fine w.0.fine short (sym z.0.contents_are ∙ w.0.contents_are) in
-      let others = same_changes ks cs ds (All-tail IsChunk k ks a) z.1 w.1 in
-      λ i. one i ∷ others i
+  same_lists : (only : Bool) (ks : List Chunk) (cs ds : List (List Change)) → All IsChunk ks → AllZip (Holds only) ks cs → AllZip (Holds only) ks ds → cs ≡ ds
+  same_lists only [] [] [] a z w = refl
+  same_lists only [] [] (d ∷ ds) a z w = absurd w
+  same_lists only [] (c ∷ cs) ds a z w = absurd z
+  same_lists only (k ∷ ks) [] ds a z w = absurd z
+  same_lists only (k ∷ ks) (c ∷ cs) [] a z w = absurd w
+  same_lists only (k ∷ ks) (c ∷ cs) (d ∷ ds) a z w =
+      let short = subst (λ b. length b < 2 ^ 64) z.0.1.contents_are (All-head IsChunk k ks a).1 in
+      let one = tells z.0.0 w.0.0 z.0.1.fine w.0.1.fine short (sym z.0.1.contents_are ∙ w.0.1.contents_are) in
+      let first : c ≡ d = z.0.2 ∙ ap (λ x. x ∷ []) one ∙ sym w.0.2 in
+      let others = same_lists only ks cs ds (All-tail IsChunk k ks a) z.1 w.1 in
+      λ i. first i ∷ others i
 
   -- ---- one fault
 
@@ -145,7 +146,7 @@ module _ (tells : TellsChanges) (judges : JudgesOnce) where
   level only bytes BadChecksum x = inl (record { fault = frame_fault.BadChecksum; is = refl; has = x })
   level only bytes (ChunkType type) x = inl (record { fault = frame_fault.ChunkType type; is = refl; has = x })
   level only bytes CompressedChunk x = inl (record { fault = frame_fault.CompressedChunk; is = refl; has = x })
-  level only bytes DocumentHere x = inr (inl (x, refl))
+  level only bytes DocumentHere x = inr (inl (record { contents = x.contents; rest = x.rest; is_chunk = x.is_chunk; bytes_are = x.bytes_are; has = tt }, refl))
   level only bytes CompressedColumn x = inr (inr (inl (x, refl)))
   level only bytes BadChange x = inr (inr (inr (x, refl)))
 
@@ -178,7 +179,7 @@ module _ (tells : TellsChanges) (judges : JudgesOnce) where
 
   same_bad : (only : Bool) (bytes : List ℕ) (j k : ℕ) (f g : LoadFault) → FirstBad only bytes j f → FirstBad only bytes k g → (j ≡ k) × (f ≡ g)
   same_bad only bytes j k f g x y =
-      let a = agree only x.before y.before x.changes y.changes x.rest y.rest f g x.each y.each x.hold y.hold (sym x.bytes_are ∙ y.bytes_are) x.bad y.bad in (
+      let a = agree only x.before y.before x.lists y.lists x.rest y.rest f g x.each y.each x.hold y.hold (sym x.bytes_are ∙ y.bytes_are) x.bad y.bad in (
         x.number ∙ ap (λ n. n + 1) a.0 ∙ sym y.number,
         same_level y.rest f g (level only y.rest f (subst (λ b. HasFault only b f) a.1 x.bad)) (level only y.rest g y.bad),
       )
@@ -187,7 +188,7 @@ module _ (tells : TellsChanges) (judges : JudgesOnce) where
   one_reading = record {
     changes = λ only bytes cs ds x y.
         let same = Rattle.am_frame.proofs.Unique.one_file bytes x.chunks y.chunks x.file y.file in
-        same_changes y.chunks cs ds y.file.each (subst (λ ks. AllZip Holds ks cs) same x.hold) y.hold;
+        x.are ∙ ap (flat_map (λ l. l)) (same_lists only y.chunks x.lists y.lists y.file.each (subst (λ ks. AllZip (Holds only) ks x.lists) same x.hold) y.hold) ∙ sym y.are;
     first_bad = same_bad;
-    never_both = λ only bytes cs k f x y. never only x.chunks y.before cs y.changes y.rest f x.file.each y.each x.hold y.hold (sym x.file.bytes_are ∙ y.bytes_are) y.more y.bad;
+    never_both = λ only bytes cs k f x y. never only x.chunks y.before x.lists y.lists y.rest f x.file.each y.each x.hold y.hold (sym x.file.bytes_are ∙ y.bytes_are) y.more y.bad;
   }

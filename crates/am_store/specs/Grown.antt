@@ -1,17 +1,26 @@
 -- A closed set while a delivery lets it grow.
 --     Grown               the entries that were there, and those that have joined
+--     AreGrown ..         graph and index are those of both, which are a valid set, and the totals those of the first
 --     MayGrow g ix m      graph and index are of a valid set, and m joins it
-use Rattle.std.specs.Prelude.{List}
+use Rattle.std.specs.Prelude.{◌≡◌, List, ◌++◌}
 use Rattle.am_types.specs.declared.Hash.{Hash}
 use Rattle.am_types.specs.declared.Change.{Change}
-use Rattle.am_types.specs.Members.{Member}
+use Rattle.am_types.specs.Members.{Member, changes}
 use Rattle.am_types.specs.ValidSets.{Valid, Joins}
 use Rattle.am_graph.specs.declared.Node.{Node}
+use Rattle.am_fits.specs.declared.Totals.{Totals}
 use Rattle.am_fits.specs.Indexes.{Indexed, AreOf}
+use Rattle.am_fits.specs.Sums.{totals_of}
+use Rattle.am_delivery.specs.Waiting.{members_of}
 
 pub record Grown : Type 0 where
   pub old : List (Hash × Change)
   pub fresh : List (Hash × Change)
+
+pub record AreGrown (old fresh : List (Hash × Change)) (g : List (Hash × Node)) (ix : Indexed) (t : Totals) : Type 0 where
+  pub of_set : AreOf (members_of (old ++ fresh)) g ix
+  pub valid : Valid (members_of (old ++ fresh))
+  pub totals : t ≡ totals_of (changes (members_of old))
 
 pub record MayGrow (g : List (Hash × Node)) (ix : Indexed) (m : Member) : Type 0 where
   pub set : List Member

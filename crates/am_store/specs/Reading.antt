@@ -13,7 +13,7 @@ use Rattle.am_store.specs.declared.fault.LoadFault.{LoadFault}
 use Rattle.am_store.specs.declared.chunk.ChunkFault.{ChunkFault}
 use Rattle.am_store.specs.declared.chunk.ChunkFault.TheVariants.{Bad, NoMemory}
 use Rattle.am_store.specs.Kept.{with_hashes}
-use Rattle.am_store.specs.Files.{Holds}
+use Rattle.am_store.specs.Files.{HoldsChange}
 
 abbrev pub MatchBad : ChunkFault → (LoadFault → Type 0) → Type 0
 MatchBad (Bad fault) P = P fault
@@ -26,6 +26,6 @@ pub record HasRead (bytes rest : List ℕ) (pairs : List (Hash × Change)) : Typ
   pub chunks : List Chunk
   pub bytes_are : bytes ≡ flat_map chunk_bytes chunks ++ rest
   pub each : All IsChunk chunks
-  pub hold : AllZip Holds chunks (changes_of pairs)
+  pub hold : AllZip HoldsChange chunks (changes_of pairs)
   pub own_hashes : members_of pairs ≡ with_hashes (changes_of pairs)
   pub may_come : All MayCome (members_of pairs)

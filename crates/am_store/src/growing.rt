@@ -1,15 +1,16 @@
 //! The closed set of a store while a delivery lets it grow.
-ghost use Rattle.std.specs.Prelude.{◌≡◌, ◌<◌, ◌++◌, ◌∷◌, [], List, Some, true, OnOk, length, option_map, slice_get};
+ghost use Rattle.std.specs.Prelude.{◌≡◌, ◌<◌, ◌++◌, ◌∷◌, [], List, Some, true, OnOk, OnErr, length, option_map, slice_get};
 ghost use Rattle.am_types.specs.Members.{Member, member, holds};
 ghost use Rattle.am_types.specs.Same.{same_change};
+ghost use Rattle.am_types.specs.ValidSets.{Valid};
 ghost use Rattle.am_graph.specs.Graphs.{nodes};
 ghost use Rattle.am_fits.specs.Indexes.{AreOf};
 ghost use Rattle.am_delivery.specs.Waiting.{members_of};
 ghost use Rattle.am_store.specs.Grown.{MayGrow};
 
-use am_delivery::{Closed, is_same};
-use am_fits::{OpIndex, fits};
-use am_graph::Graph;
+use am_delivery::{Closed, is_same, joined_is_valid};
+use am_fits::{OpIndex, Totals, fits};
+use am_graph::{Graph, valid_sets_have_distinct_seqs};
 use am_types::{Change, Hash, Twin, Verdict};
 use std::alloc::{AllocError, Global};
 use std::marker::Model;
@@ -22,19 +23,18 @@ pub struct Growing<'a> {
     pub(crate) fresh: Vec<(Hash, Change)>,
     pub(crate) graph: Graph,
     pub(crate) index: OpIndex,
+    /// The totals of the changes that were there.
+    pub(crate) totals: Totals,
 }
 
 impl<'a> Model for Growing<'a> {
-    ghost use Rattle.std.specs.Prelude.{◌++◌};
-    ghost use Rattle.am_fits.specs.Indexes.{AreOf};
-    ghost use Rattle.am_delivery.specs.Waiting.{members_of};
-    ghost use Rattle.am_store.specs.Grown.{Grown};
+    ghost use Rattle.am_store.specs.Grown.{Grown, AreGrown};
 
     ghost Value = { Grown };
 
     ghost view = { λ g. record { old = g.old.now; fresh = g.fresh.items } };
 
-    ghost invariant = { λ g. AreOf (members_of (g.old.now ++ g.fresh.items)) g.graph g.index };
+    ghost invariant = { λ g. AreGrown g.old.now g.fresh.items g.graph g.index g.totals };
 }
 
 /// The entry at a place of one list and then another.
@@ -71,20 +71,21 @@ fn same_at(
     }
 }
 
-/// Takes a copy of a change in, behind those that are there.
-fn grow(
+/// Takes a change into both, or into neither.
+fn enter(
     alloc: Global,
     graph: &mut Graph,
     index: &mut OpIndex,
-    fresh: &mut Vec<(Hash, Change)>,
     hash: Hash,
     change: &Change,
 ) -> Result<(), AllocError>
     requires { MayGrow graph.old index.old (record { hash = hash; change = change.now }) }
-    ensures fresh { OnOk result (fresh.new.items ≡ fresh.old.items ++ (hash, change.now) ∷ []) }
     ensures of_set { OnOk result ((C : List Member) → AreOf C graph.old index.old → AreOf (C ++ record { hash = hash; change = change.now } ∷ []) graph.new index.new) }
+    ensures graph { OnErr result (graph.new ≡ graph.old) }
+    ensures index { OnErr result (index.new ≡ index.old) }
 {
-    let twin = change.copy(alloc)?;
+    let totals = index.totals();
+    index.admit(alloc, change)?;
     let count = change.ops.len() as u64;
     let added = graph.add(
         alloc,
@@ -96,9 +97,31 @@ fn grow(
         change.deps.as_slice(),
     );
     if added.is_err() {
+        index.cut(totals);
         return Err(AllocError);
     }
-    index.admit(alloc, change)?;
+    Ok(())
+}
+
+/// Takes a copy of a change in, behind those that are there. Without memory nothing has changed.
+fn grow(
+    alloc: Global,
+    graph: &mut Graph,
+    index: &mut OpIndex,
+    fresh: &mut Vec<(Hash, Change)>,
+    hash: Hash,
+    change: &Change,
+) -> Result<(), AllocError>
+    requires { MayGrow graph.old index.old (record { hash = hash; change = change.now }) }
+    ensures fresh { OnOk result (fresh.new.items ≡ fresh.old.items ++ (hash, change.now) ∷ []) }
+    ensures of_set { OnOk result ((C : List Member) → AreOf C graph.old index.old → AreOf (C ++ record { hash = hash; change = change.now } ∷ []) graph.new index.new) }
+    ensures graph { OnErr result (graph.new ≡ graph.old) }
+    ensures index { OnErr result (index.new ≡ index.old) }
+    ensures none { OnErr result (fresh.new.items ≡ fresh.old.items) }
+{
+    let twin = change.copy(alloc)?;
+    fresh.reserve(1)?;
+    enter(alloc, graph, index, hash, change)?;
     fresh.push((hash, twin))?;
     Ok(())
 }
@@ -111,15 +134,35 @@ impl<'a> Growing<'a> {
         graph: Graph,
         index: OpIndex,
     ) -> Growing<'a>
-        requires { AreOf (members_of old.now) graph index }
+        requires of_set { AreOf (members_of old.now) graph index }
+        requires valid { Valid (members_of old.now) }
         ensures { result ≡ record { old = old.now; fresh = [] } }
     {
+        let totals = index.totals();
         Growing {
             old,
             fresh: Vec::new(alloc),
             graph,
             index,
+            totals,
         }
+    }
+
+    /// Graph and index without the changes that have joined.
+    pub fn cut(self) -> (Graph, OpIndex)
+        ensures { AreOf (members_of self.entry.old) result.0 result.1 }
+    {
+        valid_sets_have_distinct_seqs();
+        let Growing {
+            old,
+            fresh: _,
+            mut graph,
+            mut index,
+            totals,
+        } = self;
+        graph.cut(old.len());
+        index.cut(totals);
+        (graph, index)
     }
 }
 
@@ -142,22 +185,14 @@ impl<'a> Closed for Growing<'a> {
     }
 
     fn join(&mut self, alloc: Global, hash: Hash, change: &Change) -> Result<(), AllocError> {
-        let grown = grow(
+        joined_is_valid();
+        grow(
             alloc,
             &mut self.graph,
             &mut self.index,
             &mut self.fresh,
             hash,
             change,
-        );
-        if grown.is_err() {
-            // Graph and index may differ now, so nothing is kept.
-            self.old = &[];
-            self.fresh = Vec::new(alloc);
-            self.graph = Graph::new(alloc);
-            self.index = OpIndex::new(alloc);
-            return Err(AllocError);
-        }
-        Ok(())
+        )
     }
 }

@@ -32,6 +32,7 @@ use am_types::{Bytes, Change, Hash, List, Twin};
 use std::alloc::{AllocError, Global};
 use std::collections::BTreeMap;
 use std::marker::Model;
+use std::mem::replace;
 
 /// A closed set of changes, and those that wait for dependencies. Contracts see the two lists of changes, each beside
 /// its hash.
@@ -97,8 +98,8 @@ impl Store {
         self.take(alloc, pairs)
     }
 
-    /// Delivers changes that stand beside their own hashes. The waiting changes take them in and give them back without
-    /// memory; graph and index are made beside the old ones, which stay until nothing can fail any more.
+    /// Delivers changes that stand beside their own hashes. The waiting changes, graph and index grow in place; without
+    /// memory what was put in is cut off again.
     fn take(&mut self, alloc: Global, changes: Vec<(Hash, Change)>) -> Result<Report, AllocError>
         requires may_come { All MayCome (members_of (vec_items changes)) }
         requires own_hashes { HasOwnHashes (members_of (vec_items changes)) }
@@ -107,12 +108,12 @@ impl Store {
     {
         keeps_what_came();
         joins_no_more();
-        let graph = self.graph.copy(alloc)?;
-        let index = self.index.copy(alloc)?;
         let most = self.waiting.len() + changes.as_slice().len();
         let Ok(()) = self.closed.reserve(most) else {
             return Err(AllocError);
         };
+        let graph = replace(&mut self.graph, Graph::new(alloc));
+        let index = replace(&mut self.index, OpIndex::new(alloc));
         let mut growing = Growing::over(alloc, self.closed.as_slice(), graph, index);
         let Ok(rejected) = deliver(
             alloc,
@@ -121,6 +122,9 @@ impl Store {
             &mut self.pending,
             changes,
         ) else {
+            let (old_graph, old_index) = growing.cut();
+            self.graph = old_graph;
+            self.index = old_index;
             return Err(AllocError);
         };
         let Growing {
@@ -128,6 +132,7 @@ impl Store {
             mut fresh,
             graph,
             index,
+            totals: _,
         } = growing;
         let report = Report {
             added: count_of(fresh.as_slice()),

@@ -1,10 +1,9 @@
 use Rattle.std.proofs.Common.{rules, ◌≡◌, Err, subst}
 use Rattle.am_change.specs.declared.ChangeFault.TheVariants as change_fault
 use Rattle.am_change.specs.Judgement.{Judges}
-use Rattle.std.specs.Bool.{⊤}
 use Rattle.am_change.specs.Fronts.{IsCompressed}
-use Rattle.am_store.specs.Files.{AreOfNoChange}
-use Rattle.am_store.proofs.FirstChunk.{kind_one, begins}
+use Rattle.am_store.specs.Files.{RefusesDocument, AreOfNoChange}
+use Rattle.am_store.proofs.FirstChunk.{kind_one, begins, refuses}
 use Rattle.am_store.proofs.chunk.first_change.Goals as goal
 
 pub returns-in-Err-clause-bad : goal.returns-in-Err-clause-bad
@@ -14,7 +13,7 @@ pub returns-then-frame-eq0-clause-bad : goal.returns-then-frame-eq0-clause-bad
 returns-then-frame-eq0-clause-bad c = λ only.
     let frame = c.in-Ok.frame in
     let is = c.in-Ok.ensures.frame in
-    begins 0 (λ contents. ⊤) frame.kind c.args.bytes.now frame.contents.now frame.rest.now c.if-frame-eq0.true is.0 is.1 tt
+    begins 0 (RefusesDocument only) frame.kind c.args.bytes.now frame.contents.now frame.rest.now c.if-frame-eq0.true is.0 is.1 (refuses only frame.contents.now)
 
 pub returns-in-Err-CompressedColumn-clause-bad : goal.returns-in-Err-CompressedColumn-clause-bad
 returns-in-Err-CompressedColumn-clause-bad c = λ only.

@@ -6,6 +6,7 @@ use Rattle.am_types.specs.declared.Hash.{Hash}
 use Rattle.am_types.specs.declared.Change.{Change}
 use Rattle.am_types.specs.Members.{Member}
 use Rattle.am_types.specs.Deliver.{AreStored, deliver}
+use Rattle.am_types.specs.ValidSets.{Valid}
 use Rattle.am_fits.specs.Indexes.{AreOf}
 use Rattle.am_delivery.specs.Waiting.{member_of, members_of, waiting_of, IsTracked}
 use Rattle.am_store.specs.Grown.{Grown}
@@ -16,6 +17,19 @@ use Rattle.am_store.proofs.store.Store.take.Goals as goal
 
 abbrev kept_of : List (Hash × Change) → List Member → Kept
 kept_of es W = record { closed = members_of es; waiting = W }
+
+pub over-growing-requires-clause-of_set : goal.over-growing-requires-clause-of_set
+over-growing-requires-clause-of_set c =
+    let C = members_of c.self.inside.closed.items in
+    let lent = c.as_slice-2.ensures.value ∙ c.reserve.ensures.items in
+    subst (λ es. AreOf (members_of es) c.replace-graph.result c.replace-index.result) (sym lent)
+    (subst (λ g. AreOf C g c.replace-index.result) (sym c.replace-graph.ensures.value)
+    (subst (λ ix. AreOf C c.self.inside.graph ix) (sym c.replace-index.ensures.value) c.self.invariant.of_set))
+
+pub over-growing-requires-clause-valid : goal.over-growing-requires-clause-valid
+over-growing-requires-clause-valid c =
+    let lent = c.as_slice-2.ensures.value ∙ c.reserve.ensures.items in
+    subst (λ es. Valid (members_of es)) (sym lent) c.self.invariant.kept.stored.valid
 
 pub deliver-requires-clause-stored : goal.deliver-requires-clause-stored
 deliver-requires-clause-stored c =
@@ -43,9 +57,11 @@ pub invariant_of-self-in_default-deliver : goal.invariant_of-self-in_default-del
 invariant_of-self-in_default-deliver c =
     let same : ◌≡◌ {A = Kept} (record { closed = members_of c.reserve.new.self.items; waiting = waiting_of c.deliver.new.waiting }) (kept_of c.self.inside.closed.items (waiting_of c.self.inside.waiting)) =
     (λ i. record { closed = members_of (c.reserve.ensures.items i); waiting = c.in_default-deliver.ensures.err i }) in
+    let lent = c.as_slice-2.ensures.value ∙ c.reserve.ensures.items in
+    let base = c.deliver.ensures.base ∙ ap (λ (g : Grown). members_of g.old) c.over-growing.ensures ∙ ap members_of c.as_slice-2.ensures.value in
     record {
       kept = subst IsKept (sym same) c.self.invariant.kept;
-      of_set = subst (λ (k : Kept). AreOf k.closed c.self.inside.graph c.self.inside.index) (sym same) c.self.invariant.of_set;
+      of_set = subst (λ C. AreOf C c.cut-old_graph.result.0 c.cut-old_graph.result.1) base c.cut-old_graph.ensures;
       tracked = subst (IsTracked (members_of c.reserve.new.self.items) (waiting_of c.deliver.new.waiting)) (sym c.in_default-deliver.ensures.unknown) tt;
     }
 
@@ -64,7 +80,7 @@ unreachable-requires c =
     ap (λ (g : Grown). members_of (g.old ++ g.fresh)) view ∙ c.in-Ok-deliver.ensures.closed ∙ ap (λ (g : Grown). (deliver (members_of (g.old ++ g.fresh)) (waiting_of w) L).closed) begun in
     let waiting = subst (λ (g : Grown). IsPermutation (deliver (members_of (g.old ++ g.fresh)) (waiting_of w) L).waiting (waiting_of u)) begun c.in-Ok-deliver.ensures.waiting in
     let stored = subst (λ (g : Grown). AreStored (members_of (g.old ++ g.fresh)) (waiting_of u)) (sym view) c.in-Ok-deliver.ensures.stored in
-    let base = ap (λ (g : Grown). members_of g.old) view ∙ c.in-Ok-deliver.ensures.base ∙ ap (λ (g : Grown). members_of g.old) begun in
+    let base = ap (λ (g : Grown). members_of g.old) view ∙ c.deliver.ensures.base ∙ ap (λ (g : Grown). members_of g.old) begun in
     let failed : is_ok c.append.result ≡ false = c.is_err.ensures.negation ∙ ap not c.if-is_err.true in
     let few = few_joined old w w refl kept fresh u L closed waiting stored base c.joins_no_more.ensures in
     let room = c.in-Ok.ensures.ok in
@@ -90,12 +106,12 @@ invariant_of-self-2 c =
     ap (λ (g : Grown). members_of (g.old ++ g.fresh)) view ∙ c.in-Ok-deliver.ensures.closed ∙ ap (λ (g : Grown). (deliver (members_of (g.old ++ g.fresh)) (waiting_of w) L).closed) begun in
     let waiting = subst (λ (g : Grown). IsPermutation (deliver (members_of (g.old ++ g.fresh)) (waiting_of w) L).waiting (waiting_of u)) begun c.in-Ok-deliver.ensures.waiting in
     let stored = subst (λ (g : Grown). AreStored (members_of (g.old ++ g.fresh)) (waiting_of u)) (sym view) c.in-Ok-deliver.ensures.stored in
-    let base = ap (λ (g : Grown). members_of g.old) view ∙ c.in-Ok-deliver.ensures.base ∙ ap (λ (g : Grown). members_of g.old) begun in
+    let base = ap (λ (g : Grown). members_of g.old) view ∙ c.deliver.ensures.base ∙ ap (λ (g : Grown). members_of g.old) begun in
     let done : is_ok c.append.result ≡ true = c.is_err.ensures.negation ∙ ap not c.if-is_err.false in
     let items : c.append.new.self.items ≡ old ++ fresh = c.append.ensures.items ∙ ap (λ b. cond b (c.reserve.new.self.items ++ fresh) c.reserve.new.self.items) done ∙ ap (λ es. es ++ fresh) c.reserve.ensures.items in
     record {
       kept = subst (λ es. IsKept (kept_of es (waiting_of u))) (sym items) (kept_after old w w refl kept fresh u L closed waiting stored base c.keeps_what_came.ensures c.self.invariant.kept.own_hashes c.requires.own_hashes);
-      of_set = subst (λ es. AreOf (members_of es) c.growing.inside.graph c.growing.inside.index) (sym items) (of_after old w w refl kept fresh u L closed waiting stored base c.growing.inside.graph c.growing.inside.index c.growing.invariant);
+      of_set = subst (λ es. AreOf (members_of es) c.growing.inside.graph c.growing.inside.index) (sym items) (of_after old w w refl kept fresh u L closed waiting stored base c.growing.inside.graph c.growing.inside.index c.growing.invariant.of_set);
       tracked = subst (λ es. IsTracked (members_of es) (waiting_of u) c.deliver.new.pending) (sym items)
           (tracked_after old w w refl kept fresh u L closed waiting stored base c.deliver.new.pending (subst (λ (g : Grown). IsTracked (members_of (g.old ++ g.fresh)) (waiting_of u) c.deliver.new.pending) (sym view) c.in-Ok-deliver.ensures.tracked));
     }
@@ -115,7 +131,7 @@ returns-clause-ok c =
     ap (λ (g : Grown). members_of (g.old ++ g.fresh)) view ∙ c.in-Ok-deliver.ensures.closed ∙ ap (λ (g : Grown). (deliver (members_of (g.old ++ g.fresh)) (waiting_of w) L).closed) begun in
     let waiting = subst (λ (g : Grown). IsPermutation (deliver (members_of (g.old ++ g.fresh)) (waiting_of w) L).waiting (waiting_of u)) begun c.in-Ok-deliver.ensures.waiting in
     let stored = subst (λ (g : Grown). AreStored (members_of (g.old ++ g.fresh)) (waiting_of u)) (sym view) c.in-Ok-deliver.ensures.stored in
-    let base = ap (λ (g : Grown). members_of g.old) view ∙ c.in-Ok-deliver.ensures.base ∙ ap (λ (g : Grown). members_of g.old) begun in
+    let base = ap (λ (g : Grown). members_of g.old) view ∙ c.deliver.ensures.base ∙ ap (λ (g : Grown). members_of g.old) begun in
     let done : is_ok c.append.result ≡ true = c.is_err.ensures.negation ∙ ap not c.if-is_err.false in
     let items : c.append.new.self.items ≡ old ++ fresh = c.append.ensures.items ∙ ap (λ b. cond b (c.reserve.new.self.items ++ fresh) c.reserve.new.self.items) done ∙ ap (λ es. es ++ fresh) c.reserve.ensures.items in
     let rejected = c.in-Ok-deliver.ensures.rejected ∙ ap (λ (g : Grown). (deliver (members_of (g.old ++ g.fresh)) (waiting_of w) L).rejected) begun in
