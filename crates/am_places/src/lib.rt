@@ -8,5 +8,5 @@ mod placed;
 
 pub use checked::checked_operations;
 pub use line::{Line, line_of};
-pub use numbered::{Numbered, ascending_operations, find};
-pub use placed::{Placed, Slot, compare_placed, placed_in, sort_placed};
+pub use numbered::{Numbered, ascending_lent, ascending_operations, find, find_near};
+pub use placed::{Placed, Slot, compare_placed, placed_in, placed_near, sort_placed};

@@ -10,7 +10,7 @@ ghost use Rattle.am_places.specs.Line.{AreAnchored, IsAnchoredIn, IsHeld, IsLine
 ghost use Rattle.am_places.specs.Numbered.{ids_of, operation_of};
 ghost use Rattle.am_places.specs.Rising.{Rise};
 
-use crate::numbered::{Numbered, find};
+use crate::numbered::{Numbered, find_near};
 use am_chain::Chain;
 use am_types::{IdRef, Key};
 use std::alloc::{AllocError, Global};
@@ -50,7 +50,7 @@ fn reference(before: &[Numbered<'_>], x: &Numbered<'_>) -> Option<u32>
     match &x.op.key {
         Key::Head => None,
         Key::Name(_) => unreachable!(),
-        Key::Elem(id) => match find(before, id.lend()) {
+        Key::Elem(id) => match find_near(before, id.lend(), before.len().saturating_sub(1)) {
             Some(at) => Some(at as u32),
             None => unreachable!(),
         },
@@ -73,18 +73,27 @@ fn put_all(alloc: Global, elements: &[Numbered<'_>]) -> Result<Chain, AllocError
     Ok(chain)
 }
 
-// Notes the place of the element with this id, if none was noted.
-fn note(elements: &[Numbered<'_>], places: &mut Vec<Option<u64>>, id: IdRef<'_>, place: u64)
+// Notes the place of the element with this id, if none was noted, and tells where it stands among the elements; the guess
+// is where it may be.
+fn note(
+    elements: &[Numbered<'_>],
+    places: &mut Vec<Option<u64>>,
+    id: IdRef<'_>,
+    place: u64,
+    guess: usize,
+) -> usize
     requires rise { Rise (map operation_of elements.now) }
     requires count { length places.old.items ≡ length elements.now }
     ensures count { length places.new.items ≡ length places.old.items }
     ensures places { (W : List OpId) → length W ≡ place → places.old.items ≡ places_of W elements.now → places.new.items ≡ places_of (W ++ id_of id.entry ∷ []) elements.now }
 {
-    if let Some(at) = find(elements, id) {
-        if places[at].is_none() {
-            places[at] = Some(place);
-        }
+    let Some(at) = find_near(elements, id, guess) else {
+        return guess;
+    };
+    if places[at].is_none() {
+        places[at] = Some(place);
     }
+    at
 }
 
 // The place of each element on the way along the chain, and how many there are.
@@ -100,9 +109,10 @@ fn number(
 {
     let mut places = vec![in alloc; None; elements.len()]?;
     let mut count = 0;
+    let mut at = 0;
     let mut walk = chain.walk();
     while let Some(id) = walk.next() {
-        note(elements, &mut places, id, count);
+        at = note(elements, &mut places, id, count, at);
         count += 1;
     }
     Ok((places, count))
@@ -125,14 +135,14 @@ pub fn line_of<'a>(alloc: Global, operations: &[Numbered<'a>]) -> Result<Line<'a
     })
 }
 
-/// The place of an element in the line.
-pub fn place_in(places: &Line<'_>, id: IdRef<'_>) -> u64
+/// The place of an element in the line; the guess is where it may be among the elements.
+pub fn place_in(places: &Line<'_>, id: IdRef<'_>, guess: usize) -> u64
     requires rise { Rise (map operation_of places.now.elements.items) }
     requires count { length places.now.places.items ≡ length places.now.elements.items }
     requires held { IsHeld (map operation_of places.now.elements.items) (id_of id) }
     ensures { (A : List Operation) → IsLine A places.now → result ≡ position_or_len (same_id (id_of id.entry)) (line A) }
 {
-    match find(places.elements.as_slice(), id) {
+    match find_near(places.elements.as_slice(), id, guess) {
         Some(at) => places.places[at].unwrap_or(places.count),
         None => unreachable!(),
     }

@@ -1,16 +1,19 @@
 //! The operations of changes, beside their ids.
-ghost use Rattle.std.specs.Prelude.{◌≡◌, ◌++◌, All, IfOk, OnOk, map};
+ghost use Rattle.std.specs.Prelude.{◌≡◌, ◌++◌, All, IfOk, OnOk, true, map};
 ghost use Rattle.am_types.specs.Operations.{operations, all_operations, ascending};
 ghost use Rattle.am_types.specs.Order.{id_cmp};
 ghost use Rattle.am_types.specs.ValidSets.{IsValidSet};
 ghost use Rattle.am_types.specs.Views.{id_of};
 ghost use Rattle.am_places.specs.Numbered.{operation_of, by_id};
-ghost use Rattle.am_places.specs.Rising.{Rise, IsFound};
+ghost use Rattle.am_places.specs.Rising.{Rise, HasAt, IsFound};
 ghost use Rattle.am_places.specs.Sound.{HasRoom, Sound};
 
-use am_types::{ActorId, Change, IdRef, Op, OpId, Twin, compare_ids};
+use am_types::{ActorId, Change, IdRef, Op, OpId, Twin, compare_ids, same_id};
 use std::alloc::{AllocError, Global};
 use std::cmp::Ordering;
+
+// How far from a guess an operation is sought before it is sought among all.
+const REACH: usize = 12;
 
 /// An operation beside its id.
 #[derive(Clone, Copy)]
@@ -75,6 +78,18 @@ pub(crate) fn gather<'a>(
     Ok(all)
 }
 
+// The same of changes that are lent.
+fn gather_lent<'a>(alloc: Global, changes: &[&'a Change]) -> Result<Vec<Numbered<'a>>, AllocError>
+    requires room { All HasRoom (map (λ c. c.now) changes.now) }
+    ensures { IfOk result (λ all. map operation_of all.items ≡ all_operations (map (λ c. c.now) changes.now)) }
+{
+    let mut all = Vec::new(alloc);
+    for i in 0..changes.len() {
+        push_operations(&mut all, changes[i])?;
+    }
+    Ok(all)
+}
+
 // In ascending id.
 pub(crate) fn sort_operations(all: &mut Vec<Numbered<'_>>) -> Result<(), AllocError>
     ensures { OnOk result (map operation_of all.new.items ≡ ascending (map operation_of all.old.items)) }
@@ -100,6 +115,45 @@ pub fn ascending_operations<'a>(
     let mut all = gather(alloc, changes)?;
     sort_operations(&mut all)?;
     Ok(all)
+}
+
+/// The same of changes that are lent.
+pub fn ascending_lent<'a>(
+    alloc: Global,
+    changes: &[&'a Change],
+) -> Result<Vec<Numbered<'a>>, AllocError>
+    requires valid { IsValidSet (map (λ c. c.now) changes.now) }
+    ensures operations { IfOk result (λ all. map operation_of all.items ≡ ascending (all_operations (map (λ c. c.now) changes.now))) }
+    ensures sound { IfOk result (λ all. Sound (map operation_of all.items)) }
+{
+    let mut all = gather_lent(alloc, changes)?;
+    sort_operations(&mut all)?;
+    Ok(all)
+}
+
+// It is there, and has this id.
+fn is_at(operations: &[Numbered<'_>], id: IdRef<'_>, at: usize) -> bool
+    ensures { result ≡ true → HasAt (map operation_of operations.now) (id_of id.entry) at }
+{
+    at < operations.len() && same_id(operations[at].id(), id)
+}
+
+/// The place of the operation with this id. It takes constant time where that is near the guess.
+pub fn find_near(operations: &[Numbered<'_>], id: IdRef<'_>, guess: usize) -> Option<usize>
+    requires rise { Rise (map operation_of operations.now) }
+    ensures { IsFound (map operation_of operations.now) (id_of id.entry) result }
+{
+    if guess < operations.len() {
+        for step in 0..REACH {
+            if is_at(operations, id, guess + step) {
+                return Some(guess + step);
+            }
+            if step <= guess && is_at(operations, id, guess - step) {
+                return Some(guess - step);
+            }
+        }
+    }
+    find(operations, id)
 }
 
 /// The place of the operation with this id.

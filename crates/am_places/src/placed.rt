@@ -30,19 +30,40 @@ pub struct Placed<'a> {
 }
 
 // What the operation gives a value to.
-fn slot_of<'a>(places: &Line<'_>, x: Numbered<'a>) -> Slot<'a>
+fn slot_of<'a>(places: &Line<'_>, x: Numbered<'a>, guess: usize) -> Slot<'a>
     requires rise { Rise (map operation_of places.now.elements.items) }
     requires count { length places.now.places.items ≡ length places.now.elements.items }
     requires held { IsSlotHeld (map operation_of places.now.elements.items) (slot (operation_of x)) }
     ensures { (A : List Operation) → IsLine A places.now → slot_rank result ≡ key_rank (line A) (slot (operation_of x.entry)) }
 {
     if x.op.insert {
-        return Slot::Element(place_in(places, x.id()));
+        return Slot::Element(place_in(places, x.id(), guess));
     }
     match &x.op.key {
         Key::Name(name) => Slot::Name(name.as_str()),
         Key::Head => Slot::Head,
-        Key::Elem(id) => Slot::Element(place_in(places, id.lend())),
+        Key::Elem(id) => Slot::Element(place_in(places, id.lend(), guess)),
+    }
+}
+
+/// One of the operations, beside the place of its slot. The guess is where the element of the slot may be among the
+/// elements: near it that is found in constant time.
+pub fn placed_near<'a>(
+    operations: &[Numbered<'_>],
+    places: &Line<'_>,
+    x: Numbered<'a>,
+    guess: usize,
+) -> Placed<'a>
+    requires sound { Sound (map operation_of operations.now) }
+    requires line { IsLine (map operation_of operations.now) places.now }
+    requires among { Contains (map operation_of operations.now) (operation_of x) }
+    ensures placed { IsPlaced (map operation_of operations.now) result }
+    ensures same { operation_of result.operation ≡ operation_of x.entry }
+{
+    let _count = operations.len();
+    Placed {
+        operation: x,
+        slot: slot_of(places, x, guess),
     }
 }
 
@@ -54,11 +75,7 @@ pub fn placed_in<'a>(operations: &[Numbered<'_>], places: &Line<'_>, x: Numbered
     ensures placed { IsPlaced (map operation_of operations.now) result }
     ensures same { operation_of result.operation ≡ operation_of x.entry }
 {
-    let _count = operations.len();
-    Placed {
-        operation: x,
-        slot: slot_of(places, x),
-    }
+    placed_near(operations, places, x, places.elements.len())
 }
 
 #[tactic(auto, using(crate::proofs::PlaceOrder::then_equal))]

@@ -1,6 +1,8 @@
 //! The rows of a valid set of changes.
 #![tactic(auto)]
 
+mod kept;
+mod lent;
 mod naming;
 mod rows;
 #[cfg(test)]
@@ -8,4 +10,6 @@ mod samples;
 #[cfg(test)]
 mod tests;
 
+pub use am_places::Numbered;
+pub use lent::{LentRow, LentRows, lent_rows};
 pub use rows::rows_of;

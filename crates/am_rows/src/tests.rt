@@ -98,7 +98,7 @@ fn are_rows(rows: &[Row], expected: &[Expected]) -> bool {
 // The rows of the changes, unless it is found that they are no valid set.
 fn rows_checked(alloc: Global, changes: &[Change]) -> Result<Option<List<Row>>, AllocError> {
     match checked_operations(alloc, changes)? {
-        Some(operations) => Ok(Some(rows_in(alloc, operations.as_slice())?)),
+        Some(operations) => Ok(Some(rows_in(alloc, operations)?)),
         None => Ok(None),
     }
 }
