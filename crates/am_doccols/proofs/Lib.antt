@@ -4,3 +4,6 @@ pub mod OneReading
 pub mod BackLaws
 pub mod RowsWritten
 pub mod MetasWritten
+pub mod Spelling
+pub mod RowsSpelled
+pub mod MetasSpelled

@@ -37,7 +37,7 @@ naturals_again : (ns : List ℕ) → map natural (map whole ns) ≡ ns
 naturals_again [] = refl
 naturals_again (n ∷ ns) = ap (λ zs. n ∷ zs) (naturals_again ns)
 
-times_again : (ts : List ℤ) → read_as (pos 0) (map Some ts) ≡ ts
+pub times_again : (ts : List ℤ) → read_as (pos 0) (map Some ts) ≡ ts
 times_again [] = refl
 times_again (t ∷ ts) = ap (λ zs. t ∷ zs) (times_again ts)
 
@@ -45,11 +45,11 @@ message_again : (text : List ℕ) → unwrap_or (unless_empty text) [] ≡ text
 message_again [] = refl
 message_again (b ∷ text) = refl
 
-messages_again : (texts : List (List ℕ)) → read_as [] (map unless_empty texts) ≡ texts
+pub messages_again : (texts : List (List ℕ)) → read_as [] (map unless_empty texts) ≡ texts
 messages_again [] = refl
 messages_again (t ∷ texts) = cons_same _ _ _ _ (message_again t) (messages_again texts)
 
-extras_again : (extras : List (List ℕ)) → bytes_of (map extra_value extras) ≡ extras
+pub extras_again : (extras : List (List ℕ)) → bytes_of (map extra_value extras) ≡ extras
 extras_again [] = refl
 extras_again (x ∷ extras) = ap (λ zs. x ∷ zs) (extras_again extras)
 
@@ -173,7 +173,7 @@ pub extras_good : (actors : List (List ℕ)) (metas : List Meta) → AllByRecurs
 extras_good actors [] all = tt
 extras_good actors (m ∷ metas) all = ((all.0).extra, extras_good actors metas all.1)
 
-ascending : (actors : List (List ℕ)) (metas : List Meta) → Ascend (listing (spellings actors (meta_columns metas)))
+pub ascending : (actors : List (List ℕ)) (metas : List Meta) → Ascend (listing (spellings actors (meta_columns metas)))
 ascending actors metas = (omega arith, (omega arith, (omega arith, (omega arith, (omega arith, (omega arith, (omega arith, (omega arith, tt))))))))
 
 pub columns_ascend : (failed : Bool) (actors : List (List ℕ)) (w : MetaColumns) (columns at : List (ℕ × List ℕ))

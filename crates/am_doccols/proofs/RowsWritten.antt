@@ -1,31 +1,35 @@
 -- Rows that are written one behind another.
 use Rattle.std.proofs.Common.{◌≡◌, ◌≤◌, ◌^◌, ℕ, List, [], ◌∷◌, ◌++◌, length, map, Option, Some, None, Bool, true, false, refl, sym, ap, ◌∙◌, arith, subst}
-use Rattle.std.specs.Prelude.{IfSome, IfOk, Result, Ok, Err}
+use Rattle.std.specs.Prelude.{All, IfSome, IfOk, Result, Ok, Err}
 use Rattle.am_types.specs.declared.Bytes.{Bytes}
 use Rattle.am_colmeta.specs.Metadata.{listing, not_empty, Ascend}
 use Rattle.std.specs.Option.{option_map}
 use Rattle.std.specs.List.{AllByRecursion}
-use Rattle.std.proofs.lemmas.List.{length-append, length-map}
+use Rattle.std.proofs.lemmas.List.{length-append, length-map, map-append}
+use Rattle.std.proofs.lemmas.List.Elements.{All-from_recursion}
+use Rattle.am_types.specs.declared.IdRef.{IdRef}
 use Rattle.am_types.specs.declared.OpId.{OpId}
+use Rattle.am_types.specs.Fine.{IsId}
 use Rattle.am_types.specs.declared.ObjId.{ObjId}
 use Rattle.am_types.specs.declared.Key.{Key}
 use Rattle.am_types.specs.declared.RawValue.{RawValue}
 use Rattle.am_types.specs.declared.Row.{Row}
 use Rattle.am_types.specs.Views.{id_of}
-use Rattle.am_fields.specs.Columns.{spellings}
-use Rattle.am_fields.specs.Layout.{flat}
+use Rattle.am_fields.specs.Columns.{place_of, spellings}
+use Rattle.am_fields.specs.Layout.{flat, id_actor, id_counter}
 use Rattle.am_doccols.specs.declared.lent.RowFields.{RowFields}
 use Rattle.am_fields.specs.declared.field_writer.Fields.{Fields}
 use Rattle.am_fields.specs.declared.field_writer.FieldWriter.{FieldWriter}
 use Rattle.am_fields.specs.declared.id_writer.IdWriter.{IdWriter}
 use Rattle.am_doccols.specs.Columns.{row_columns, written_rows}
 use Rattle.am_doccols.specs.Lent.{row_with}
-use Rattle.am_doccols.specs.Conditions.{IsRowFor, HasRoom}
+use Rattle.am_doccols.specs.Conditions.{IsIdFor, IsRowFor, HasRoom}
 use Rattle.am_fields.specs.Held.{FieldLists, FieldsHeld, FieldsFit, IdsHeld, IdsFit, with_fields}
 use Rattle.am_doccols.specs.Back.{rows_back}
 use Rattle.am_doccols.specs.Writing.{row_lists, RowsHeld, rows_written, IsWritingRows}
 use Rattle.am_fields.proofs.Lists.{all-append}
-use Rattle.am_fields.proofs.WriteLaws.{held, wrote, map-next, map2-next, flat-next, lists, lists_same}
+use Rattle.am_fields.proofs.Zips.{map-map}
+use Rattle.am_fields.proofs.WriteLaws.{held, wrote, wrote_all, map-next, map2-next, flat-next, lists, lists_same}
 use Rattle.am_doccols.proofs.BackLaws.{rows_again, row_keys, row_values, row_ids, row_succs, ids_within}
 use Rattle.am_fields.proofs.CanonicalLaws.{keys_middling, ids_middling}
 
@@ -110,7 +114,7 @@ begun actors f i l s hf hi hl hs =
 
 -- what was finished is what the rows' columns are
 
-ascending : (actors : List (List ℕ)) (rows : List Row) → Ascend (listing (spellings actors (row_columns rows)))
+pub ascending : (actors : List (List ℕ)) (rows : List Row) → Ascend (listing (spellings actors (row_columns rows)))
 ascending actors rows = (omega arith, (omega arith, (omega arith, (omega arith, (omega arith, (omega arith, (omega arith, (omega arith, (omega arith, (omega arith, (omega arith, (omega arith, (omega arith, (omega arith, (omega arith, tt)))))))))))))))
 
 pub columns_ascend : (failed : Bool) (actors : List (List ℕ)) (f : FieldWriter) (i : IdWriter) (l : Option (List (Option ℕ))) (s : IdWriter) (columns at : List (ℕ × List ℕ))
@@ -155,3 +159,27 @@ pub succs_fit : (actors : List (List ℕ)) (rows : List Row) → AllByRecursion 
 succs_fit actors rows all few =
     let ids = flat (map (λ r. r.succs) rows) in
     record { counters = ids_middling ids (ids_within actors ids (row_succs actors rows all)); few = omega arith }
+
+-- successors that are lent
+
+pub lent_within : (actors : List (List ℕ)) (ids : List IdRef) → AllByRecursion (IsIdFor actors) (map id_of ids) → All (λ (i : IdRef). IsId (id_of i)) ids
+lent_within actors ids all = All-from_recursion (λ (i : IdRef). IsId (id_of i)) ids (each ids all)
+  where
+    each : (ids : List IdRef) → AllByRecursion (IsIdFor actors) (map id_of ids) → AllByRecursion (λ (i : IdRef). IsId (id_of i)) ids
+    each [] all = tt
+    each (i ∷ ids) all = ((all.0).within, each ids all.1)
+
+pub lent_step : (actors : List (List ℕ)) (old new : IdWriter) (more : List IdRef)
+    → IfSome old.places (λ xs. new.places ≡ Some (xs ++ map (option_map (place_of actors)) (map (λ (i : IdRef). id_actor (id_of i)) more)))
+    → IfSome old.counters (λ xs. new.counters ≡ Some (xs ++ map (λ (i : IdRef). id_counter (id_of i)) more))
+    → (before : List OpId) → IdsHeld actors before old → IdsHeld actors (before ++ map id_of more) new
+lent_step actors old new more placed counted before held =
+    let f = option_map (place_of actors) in
+    let ids = map id_of more in
+    record {
+      places = wrote_all _ _ _ _ _ _ held.places placed refl (ap (map f) (map-append id_actor before ids) ∙ map-append f (map id_actor before) (map id_actor ids) ∙ ap (λ zs. map f (map id_actor before) ++ map f zs) (map-map id_actor id_of more));
+      counters = wrote_all _ _ _ _ _ _ held.counters counted refl (map-append id_counter before ids ∙ ap (λ zs. map id_counter before ++ zs) (map-map id_counter id_of more));
+    }
+
+pub lent_count : (l l' : Option (List (Option ℕ))) (ids : List IdRef) → IfSome l (λ xs. l' ≡ Some (xs ++ Some (length ids) ∷ [])) → IfSome l (λ xs. l' ≡ Some (xs ++ Some (length (map id_of ids)) ∷ []))
+lent_count l l' ids h = subst (λ (n : ℕ). IfSome l (λ xs. l' ≡ Some (xs ++ Some n ∷ []))) (sym (length-map ids id_of)) h

@@ -1,12 +1,15 @@
--- What rows and change rows must meet to be written.
+-- What rows and change rows must meet to be written, and to be read again.
 --     IsIdFor actors id          the id is within its limits, and its actor is listed
 --     IsRowFor actors row        the ids in the row are within their limits, its value is good, and its actors are listed
 --     IsMetaFor actors meta      the numbers in the change row are within their limits, and its actor is listed
 --     IsPlace i                  it may be the place of a change row
+--     IsReadable row             beyond that, its action is one of the eight and its mark's name is a text
+--     IsReadableMeta n meta      beyond that, the number in the change row counts from 1, its actor has 1 to 1,024 bytes,
+--                                its message is a text, and its dependencies are among n change rows
 --     succ_count rows, dep_count metas     how many successors, or dependencies, there are in all
 --     HasRoom, HasMetaRoom       one more may be written behind those that were
 -- The bounds are limits of amstore's profile.
-use Rattle.std.specs.Prelude.{ℕ, ◌+◌, ◌<◌, ◌≤◌, ◌^◌, List, length, map}
+use Rattle.std.specs.Prelude.{ℕ, ◌+◌, ◌<◌, ◌≤◌, ◌^◌, List, length, map, IfSome, IsUtf8}
 use Rattle.std.specs.List.{AllByRecursion}
 use Rattle.am_types.specs.declared.OpId.{OpId}
 use Rattle.am_types.specs.declared.Row.{Row}
@@ -16,7 +19,7 @@ use Rattle.am_types.specs.Values.{Good}
 use Rattle.am_fields.specs.Actors.{IsListed, IfListed}
 use Rattle.am_fields.specs.Extras.{extra_value}
 use Rattle.am_fields.specs.Layout.{object_actor, key_actor, flat}
-use Rattle.am_fields.specs.Limits.{IsTime}
+use Rattle.am_fields.specs.Limits.{IsTime, IsShortActor}
 
 -- an id within its limits, with a listed actor
 pub record IsIdFor (actors : List (List ℕ)) (id : OpId) : Type 0 where
@@ -42,6 +45,16 @@ pub record IsMetaFor (actors : List (List ℕ)) (meta : Meta) : Type 0 where
   pub time : IsTime meta.time
   pub deps : AllByRecursion IsPlace meta.deps
   pub extra : Good (extra_value meta.extra)
+
+pub record IsReadable (row : Row) : Type 0 where
+  pub action : row.action ≤ 7
+  pub mark : IfSome row.mark IsUtf8
+
+pub record IsReadableMeta (count : ℕ) (meta : Meta) : Type 0 where
+  pub actor : IsShortActor meta.actor
+  pub seq : 1 ≤ meta.seq
+  pub message : IsUtf8 meta.message
+  pub deps : AllByRecursion (λ i. i < count) meta.deps
 
 abbrev pub succ_count : List Row → ℕ
 succ_count rows = length (flat (map (λ r. r.succs) rows))

@@ -1,5 +1,9 @@
 //! Writing rows to their columns.
-ghost use Rattle.std.specs.Prelude.{◌≡◌, ◌++◌, ◌∷◌, [], Some, None, IfOk, IfSome, IfNone, OnOk, OnErr, IsErr};
+ghost use Rattle.std.specs.Prelude.{◌≡◌, All, ◌+◌, ◌≤◌, ◌^◌, ◌++◌, ◌∷◌, [], Some, None, map, option_map, length, IfOk, IfSome, IfNone, OnOk, OnErr, IsErr};
+ghost use Rattle.am_types.specs.Fine.{IsId};
+ghost use Rattle.am_types.specs.Views.{id_of};
+ghost use Rattle.am_fields.specs.Columns.{place_of};
+ghost use Rattle.am_fields.specs.Layout.{id_actor, id_counter};
 ghost use Rattle.am_colmeta.specs.Metadata.{metadata, listing, body};
 ghost use Rattle.am_doccols.specs.Columns.{written_rows};
 ghost use Rattle.am_doccols.specs.Conditions.{IsRowFor, HasRoom};
@@ -7,8 +11,9 @@ ghost use Rattle.am_doccols.specs.Lent.{row_with};
 
 use crate::finished::columns_in;
 use crate::lent::RowFields;
-use am_fields::{FieldWriter, Fields, IdWriter, NumberWriter, columns_of};
-use am_types::{ActorId, Bytes, List, OpId, Twin};
+use am_delta::DeltaWriter;
+use am_fields::{FieldWriter, Fields, IdWriter, NumberWriter, columns_of, place_in};
+use am_types::{ActorId, Bytes, IdRef, List, OpId, Twin};
 use std::alloc::{AllocError, Global};
 use std::marker::Model;
 
@@ -47,6 +52,26 @@ pub fn actors_in(alloc: Global, actors: &[ActorId]) -> Result<List<ActorId>, All
         copied.push(actor.copy(alloc)?)?;
     }
     Ok(copied)
+}
+
+// Appends ids that are lent to the columns of places and of counters.
+fn push_lent_ids(
+    places: &mut NumberWriter,
+    counters: &mut DeltaWriter,
+    actors: &[ActorId],
+    ids: &[IdRef<'_>],
+) -> Result<(), AllocError>
+    requires places { IfSome places.old (λ xs. length xs + length ids.now ≤ 2 ^ 32) }
+    requires counters { IfSome counters.old (λ xs. length xs + length ids.now ≤ 2 ^ 32) }
+    requires ids { All (λ i. IsId (id_of i)) ids.now }
+    ensures places { OnOk result (IfSome places.old (λ xs. places.new ≡ Some (xs ++ map (option_map (place_of actors.now)) (map (λ i. id_actor (id_of i)) ids.now)))) }
+    ensures counters { OnOk result (IfSome counters.old (λ xs. counters.new ≡ Some (xs ++ map (λ i. id_counter (id_of i)) ids.now))) }
+{
+    for id in ids {
+        places.push(Some(place_in(actors, id.actor)))?;
+        counters.push(Some(id.counter as i64))?;
+    }
+    Ok(())
 }
 
 impl RowWriter {
@@ -94,6 +119,42 @@ impl RowWriter {
         self.ids.push(actors, row.id)?;
         self.lengths.push(Some(succs.len() as u64))?;
         self.succs.push_all(actors, succs)?;
+        self.failed = false;
+        Ok(())
+    }
+
+    /// Appends the row with these fields and successors, all lent.
+    pub fn push_lent(&mut self, row: RowFields<'_>, succs: &[IdRef<'_>]) -> Result<(), AllocError>
+        requires row { IsRowFor self.old.0 (row_with row (map id_of succs.now)) }
+        requires room { IfSome self.old.1 (λ rows. HasRoom rows (map id_of succs.now)) }
+        ensures actors { self.new.0 ≡ self.old.0 }
+        ensures failed { IfNone self.old.1 ((self.new.1 ≡ None) × IsErr result) }
+        ensures ok { OnOk result (IfSome self.old.1 (λ rows. self.new.1 ≡ Some (rows ++ row_with row.entry (map id_of succs.now) ∷ []))) }
+        ensures err { OnErr result (self.new.1 ≡ None) }
+    {
+        if self.failed {
+            return Err(AllocError);
+        }
+        self.failed = true;
+        let actors = self.actors.as_slice();
+        let fields = Fields {
+            obj: row.obj,
+            key: row.key,
+            insert: row.insert,
+            action: row.action,
+            value: row.value,
+            expand: row.expand,
+            mark: row.mark,
+        };
+        self.fields.push(actors, fields)?;
+        self.ids.push(actors, row.id)?;
+        self.lengths.push(Some(succs.len() as u64))?;
+        push_lent_ids(
+            &mut self.succs.places,
+            &mut self.succs.counters,
+            actors,
+            succs,
+        )?;
         self.failed = false;
         Ok(())
     }
