@@ -9,4 +9,6 @@ mod placed;
 pub use checked::checked_operations;
 pub use line::{Line, line_of};
 pub use numbered::{Numbered, ascending_lent, ascending_operations, find, find_near};
-pub use placed::{Placed, Slot, compare_placed, placed_in, placed_near, sort_placed};
+pub use placed::{
+    Placed, Slot, compare_placed, compare_slots, placed_in, placed_near, sort_placed,
+};

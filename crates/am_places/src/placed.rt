@@ -78,8 +78,9 @@ pub fn placed_in<'a>(operations: &[Numbered<'_>], places: &Line<'_>, x: Numbered
     placed_near(operations, places, x, places.elements.len())
 }
 
+/// The order of slots within one object.
 #[tactic(auto, using(crate::proofs::PlaceOrder::then_equal))]
-fn compare_slots(a: Slot<'_>, b: Slot<'_>) -> Ordering
+pub fn compare_slots(a: Slot<'_>, b: Slot<'_>) -> Ordering
     ensures { result ≡ rank_cmp (slot_rank a.entry) (slot_rank b.entry) }
 {
     match (a, b) {

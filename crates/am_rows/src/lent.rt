@@ -8,8 +8,9 @@ ghost use Rattle.am_places.specs.Sound.{Sound};
 ghost use Rattle.am_rows.specs.Lent.{lent_row};
 ghost use Rattle.am_rows.specs.Making.{rows_in};
 
-use crate::kept::{Kept, place_kept, sort_kept};
+use crate::kept::{Kept, place_kept};
 use crate::naming::successors;
+use crate::ranked::in_order;
 use am_places::{Numbered, ascending_lent, find_near, line_of};
 use am_types::Change;
 use std::alloc::{AllocError, Global};
@@ -50,8 +51,8 @@ impl<'a> LentRows<'a> {
     {
         let succs = successors(alloc, operations.as_slice())?;
         let places = line_of(alloc, operations.as_slice())?;
-        let mut kept = place_kept(alloc, operations.as_slice(), &places)?;
-        sort_kept(&mut kept)?;
+        let kept = place_kept(alloc, operations.as_slice(), &places)?;
+        let kept = in_order(alloc, operations.as_slice(), kept)?;
         Ok(LentRows {
             operations,
             succs,

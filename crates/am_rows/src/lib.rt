@@ -4,6 +4,7 @@
 mod kept;
 mod lent;
 mod naming;
+mod ranked;
 mod rows;
 #[cfg(test)]
 mod samples;
