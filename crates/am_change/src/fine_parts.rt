@@ -20,7 +20,7 @@ fn is_below(a: &[u8], b: &[u8]) -> bool
 }
 
 // Whether each of the hashes that stand one after another is below the next.
-fn hashes_ascend(bytes: &[u8], count: u64) -> bool
+pub fn hashes_ascend(bytes: &[u8], count: u64) -> bool
     requires { length bytes.now ≡ 32 * count }
     ensures { IsTrue result ↔ Chain hash_cmp (hashes_in count bytes.now) }
 {

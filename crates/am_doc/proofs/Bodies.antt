@@ -4,7 +4,8 @@ use Rattle.am_types.specs.declared.Table.{Table}
 use Rattle.am_colmeta.specs.Metadata.{metadata, listing, body as columns_body}
 use Rattle.am_colmeta.specs.Actors.{actors_bytes}
 use Rattle.am_doccols.specs.Columns.{written_rows, written_metas}
-use Rattle.am_doc.specs.Contents.{body, hashes_bytes, suffix_bytes}
+use Rattle.am_change.specs.Contents.{hashes_bytes}
+use Rattle.am_doc.specs.Contents.{body, suffix_bytes}
 
 pub body_is : (t : Table) (a h m r n s : List ℕ) → a ≡ actors_bytes t.actors → h ≡ hashes_bytes t.heads
     → m ≡ metadata (listing (written_metas t.actors t.metas)) → r ≡ metadata (listing (written_rows t.actors t.rows))

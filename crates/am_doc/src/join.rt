@@ -1,7 +1,8 @@
 //! The parts of a document, one after another.
 ghost use Rattle.std.specs.Prelude.{◌≡◌, ◌++◌, IfOk};
 ghost use Rattle.am_colmeta.specs.Actors.{actors_bytes};
-ghost use Rattle.am_doc.specs.Contents.{hashes_bytes, suffix_bytes};
+ghost use Rattle.am_change.specs.Contents.{hashes_bytes};
+ghost use Rattle.am_doc.specs.Contents.{suffix_bytes};
 
 use crate::parts::{push_actors, push_hashes, push_suffix};
 use am_types::{ActorId, Bytes, Hash, List};

@@ -140,3 +140,8 @@ extras_of actors columns rows s = record { number_column = (s.spelled).1.1.1.1.1
 pub count_of : (actors : List (List ℕ)) (columns : List (ℕ × List ℕ)) (rows : List Meta) → SpellsMetas actors columns rows → (authors : List (List ℕ)) → SpellsAuthors actors (column_at columns 1) authors → (n : ℕ) → n ≡ length authors → length rows ≡ n
 count_of actors columns rows s authors t n e =
     sym (length-map rows (λ r. r.actor)) ∙ authors_length actors (column_at columns 1) (map (λ r. r.actor) rows) authors (authors_of actors columns rows s) t ∙ sym e
+
+-- there are as many rows as authors
+pub length-metas : (os : List (List ℕ)) (ks : List ℕ) (xs : List ℕ) (ts : List ℤ) (ms : List (List ℕ)) (ds : List (List ℕ)) (es : List (List ℕ)) → Even (length os) os ks xs ts ms ds es → length (metas_from os ks xs ts ms ds es) ≡ length os
+length-metas os ks xs ts ms ds es even =
+    sym (length-map (metas_from os ks xs ts ms ds es) (λ r. r.actor)) ∙ ap length (fields_from (length os) os ks xs ts ms ds es even).authors

@@ -5,7 +5,7 @@ use Rattle.am_types.specs.declared.Table.{Table}
 use Rattle.am_colmeta.specs.Metadata.{metadata, listing, body as columns_body}
 use Rattle.am_colmeta.specs.Actors.{actors_bytes}
 use Rattle.am_doccols.specs.Columns.{written_rows, written_metas}
-use Rattle.am_doc.specs.Contents.{hashes_bytes}
+use Rattle.am_change.specs.Contents.{hashes_bytes}
 use Rattle.am_doc.specs.Lent.{lent_table}
 use Rattle.am_doc.proofs.Bodies.{body_is}
 use Rattle.am_doc.proofs.Writers.{both_same}

@@ -1,0 +1,11 @@
+use Rattle.std.proofs.Common.{length}
+use Rattle.std.specs.List.{AllByRecursion}
+use Rattle.am_fields.specs.Limits.{IsShortActor}
+use Rattle.am_doc.proofs.doc_ref.are_short.Given as goal
+
+abbrev pub invariant-loop-actor : goal.invariant-loop-actor
+invariant-loop-actor l =
+    (AllByRecursion IsShortActor l.rest → AllByRecursion IsShortActor l.actors) × (AllByRecursion IsShortActor l.actors → AllByRecursion IsShortActor l.rest)
+
+abbrev pub decreases-loop-actor : goal.decreases-loop-actor
+decreases-loop-actor l = length l.rest

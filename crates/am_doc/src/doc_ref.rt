@@ -1,0 +1,168 @@
+//! A document that is lent from the contents of its chunk.
+ghost use Rattle.std.specs.Prelude.{◌≡◌, ◌↔◌, length, slice_get, IsTrue, IfSome, IfNone};
+ghost use Rattle.std.specs.List.{AllByRecursion};
+ghost use Rattle.std.specs.Option.{option_copied};
+ghost use Rattle.am_types.specs.declared.Table.{Table as ATable};
+ghost use Rattle.am_colmeta.specs.Judgement.{AreCompressed};
+ghost use Rattle.am_fields.specs.Limits.{IsShortActor};
+ghost use Rattle.am_doc.specs.Spelling.{SpellsBehind, Judges};
+ghost use Rattle.am_doc.specs.Reading.{front_of};
+
+use crate::cut::columns_at;
+use crate::fault::DocFault;
+use crate::front::FrontRef;
+use crate::suffix::is_suffix;
+use am_change::HashList;
+use am_colmeta::ActorList;
+use am_doccols::{MetaCursor, RowCursor};
+use am_types::Hash;
+use std::marker::Model;
+
+// The columns that change rows may have.
+const META_COLUMNS: [u64; 9] = [1, 3, 19, 35, 53, 64, 67, 86, 87];
+
+// The columns that operation rows may have.
+const ROW_COLUMNS: [u64; 16] = [
+    1, 2, 17, 19, 21, 33, 35, 52, 66, 86, 87, 128, 129, 131, 148, 165,
+];
+
+/// A document, lent from the contents of its chunk. A contract sees the table that they spell. Nothing is copied.
+#[derive(Drop)]
+pub struct DocRef<'a> {
+    actors: ActorList<'a>,
+    heads: HashList<'a>,
+    metas: MetaCursor<'a>,
+    rows: RowCursor<'a>,
+    suffix: &'a [u8],
+}
+
+impl<'a> Model for DocRef<'a> {
+    ghost use Rattle.am_types.specs.declared.Table.{Table};
+    ghost use Rattle.am_doc.specs.Reading.{table_with};
+
+    ghost Value = { Table };
+
+    ghost view = { λ d. table_with d.actors d.heads d.metas d.rows d.suffix.now };
+}
+
+// Whether each actor has 1 to 1,024 bytes.
+fn are_short(actors: &ActorList<'_>) -> bool
+    ensures { IsTrue result ↔ AllByRecursion IsShortActor actors.now }
+{
+    let mut rest = actors.again();
+    while let Some(actor) = rest.next() {
+        if actor.is_empty() || actor.len() > 1024 {
+            return false;
+        }
+    }
+    true
+}
+
+// The document with this front, and this behind it; None where that is no document's.
+fn opened<'a>(front: &FrontRef<'a>, rest: &'a [u8]) -> Option<DocRef<'a>>
+    ensures spelled { IfSome result (SpellsBehind (front_of front.now) rest.now) }
+    ensures none { IfNone result ((t : ATable) → (AreCompressed front.now.metas → ⊥) → (AreCompressed front.now.rows → ⊥) → SpellsBehind (front_of front.now) rest.now t → ⊥) }
+{
+    let (metas, rest) = columns_at(&front.metas, rest, &META_COLUMNS)?;
+    let (rows, suffix) = columns_at(&front.rows, rest, &ROW_COLUMNS)?;
+    if !are_short(&front.actors) {
+        return None;
+    }
+    if !front.heads.are_ascending() {
+        return None;
+    }
+    let Ok(metas) = MetaCursor::over(metas, front.actors.again()) else {
+        return None;
+    };
+    let Ok(rows) = RowCursor::over(rows, front.actors.again()) else {
+        return None;
+    };
+    if !is_suffix(suffix, front.heads.count(), metas.left()) {
+        return None;
+    }
+    Some(DocRef {
+        actors: front.actors.again(),
+        heads: front.heads.again(),
+        metas,
+        rows,
+        suffix,
+    })
+}
+
+impl<'a> DocRef<'a> {
+    /// The document with these contents of a chunk (Automerge Binary Document Format, "Document Chunks"), in any spelling of
+    /// its columns. CompressedColumn where the parts in front of the columns can be read and list a column that is compressed
+    /// by DEFLATE, else BadDocument where the contents spell no table. It takes no memory.
+    pub fn read(contents: &'a [u8]) -> Result<DocRef<'a>, DocFault>
+        ensures judged { Judges contents.now result }
+    {
+        let Some((front, rest)) = FrontRef::read(contents) else {
+            return Err(DocFault::BadDocument);
+        };
+        if front.metas.compressed() {
+            return Err(DocFault::CompressedColumn);
+        }
+        if front.rows.compressed() {
+            return Err(DocFault::CompressedColumn);
+        }
+        match opened(&front, rest) {
+            Some(doc) => Ok(doc),
+            None => Err(DocFault::BadDocument),
+        }
+    }
+
+    /// The operation rows, one after another.
+    pub fn rows(&self) -> RowCursor<'a>
+        ensures { result ≡ self.now.rows }
+    {
+        self.rows.again()
+    }
+
+    /// The change rows, one after another.
+    pub fn metas(&self) -> MetaCursor<'a>
+        ensures { result ≡ self.now.metas }
+    {
+        self.metas.again()
+    }
+
+    /// How many heads are stated.
+    pub fn head_count(&self) -> u64
+        ensures { result ≡ length self.now.heads }
+    {
+        self.heads.count()
+    }
+
+    /// The stated head at a place, counted from 0, or None where there are fewer.
+    pub fn head(&self, i: u64) -> Option<Hash>
+        ensures { result ≡ slice_get self.now.heads i }
+    {
+        self.heads.get(i)
+    }
+
+    /// How many actors are listed.
+    pub fn actor_count(&self) -> u64
+        ensures { result ≡ length self.now.actors }
+    {
+        self.actors.count()
+    }
+
+    /// The actor at a place, counted from 0, or None where there are fewer. It walks there.
+    pub fn actor(&self, i: u64) -> Option<&'a [u8]>
+        ensures { option_copied result ≡ slice_get self.now.actors i }
+    {
+        self.actors.get(i)
+    }
+
+    /// The same document again.
+    pub fn again(&self) -> Self
+        ensures { result ≡ self.now }
+    {
+        DocRef {
+            actors: self.actors.again(),
+            heads: self.heads.again(),
+            metas: self.metas.again(),
+            rows: self.rows.again(),
+            suffix: self.suffix,
+        }
+    }
+}
