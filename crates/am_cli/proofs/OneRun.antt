@@ -16,8 +16,6 @@ use Rattle.am_types.specs.ValidSets.{Valid}
 use Rattle.am_types.specs.Deliver.{AreStored, MayCome}
 use Rattle.am_laws.specs.Laws.{ListingIsFree}
 use Rattle.am_delivery.specs.Laws as delivery
-use Rattle.am_delivery.proofs.Alikeness.{sorted_permutation}
-use Rattle.am_delivery.proofs.Steady.{steady_from}
 use Rattle.am_store.specs.Kept.{Kept, with_hashes}
 use Rattle.am_store.specs.Files as store
 use Rattle.am_store.specs.History.{line_of}
@@ -48,6 +46,7 @@ pub record Laws : Type 0 where
   pub file_or_fault : (only : Bool) (bytes : List ℕ) (cs : List Change) (k : ℕ) (f : LoadFault) → store.IsFile only bytes cs → store.FirstBad only bytes k f → ⊥
   pub deliveries : delivery.ListingIsFree
   pub stored : delivery.StaysStored
+  pub waiting : delivery.WaitingSortsAlike
   pub reads : ListingIsFree
   pub sorts : (xs ys : List Hash) → IsPermutation xs ys → sorted_by hash_cmp ys ≡ sorted_by hash_cmp xs
 
@@ -185,7 +184,7 @@ one_document law c s may p = rw ((law.reads c.kept.closed s.kept.closed may.vali
 one_save : Laws → (c s : Held) → MayHold c → SameHeld c s → saved_all s.kept ≡ saved_all c.kept
 one_save law c s may p =
     let closed = one_document law c s may p in
-    let waiting = sorted_permutation c.kept.waiting s.kept.waiting (steady_from c.kept.closed c.kept.waiting [] may).distinct p.sets.waiting in
+    let waiting = law.waiting c.kept.closed c.kept.waiting s.kept.waiting may p.sets.waiting in
     λ i. closed i ++ chunks (waiting i)
 
 one_kept : (c s t : State) (name bytes here there : List ℕ) (r q : List ℕ) (end other : State) → Sound c → SameState c s → SameState c t → here ≡ bytes → there ≡ bytes → Keeps s name here r end → Keeps t name there q other → Agree r q end other

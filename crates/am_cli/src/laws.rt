@@ -17,6 +17,7 @@ pub fn one_run()
     am_store::one_reading();
     am_delivery::listing_is_free();
     am_delivery::stays_stored();
+    am_delivery::waiting_sorts_alike();
     am_laws::listing_is_free();
     am_laws::sorting_is_free();
 }
