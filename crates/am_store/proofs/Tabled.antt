@@ -1,5 +1,5 @@
 -- The parts of the canonical table of a valid set, made of its listing in canonical order.
-use Rattle.std.proofs.Common.{ℕ, ◌≡◌, List, [], ◌∷◌, map, Option, All, IsPermutation, refl, sym, ap, ◌∙◌, subst}
+use Rattle.std.proofs.Common.{ℕ, ◌≡◌, List, [], ◌∷◌, map, Option, Some, Bor, All, IsPermutation, refl, sym, ap, ◌∙◌, subst}
 use Rattle.std.specs.List.{dedup}
 use Rattle.std.proofs.lemmas.List.Elements.{All-map}
 use Rattle.std.proofs.lemmas.List.Sorted.{IsPermutation-sym, IsPermutation-trans}
@@ -82,3 +82,21 @@ module _ (C : List Member) (v : Valid C) where
         let parts : ◌≡◌ {A = Table} (record { actors = a; heads = hd; metas = m; rows = r; suffix = s }) (record { actors = actors_once cs; heads = hd; metas = map (row_with hs) cs; rows = rows (all_operations cs); suffix = unless_empty (map (λ h. place_in hs h) hd) }) =
         (λ i. record { actors = ea i; heads = hd; metas = em i; rows = er i; suffix = es i }) in
         parts ∙ listed hs cs hd eh ec ed ∙ reads.table
+
+-- ---- changes that are lent
+
+abbrev pub lent_changes : List (Bor Change) → List Change
+lent_changes cs = map (λ (c : Bor Change). c.now) cs
+
+map-map : {X Y Z : Type 0} (g : Y → Z) (f : X → Y) (xs : List X) → map g (map f xs) ≡ map (λ x. g (f x)) xs
+map-map g f [] = refl
+map-map g f (x ∷ xs) = ap (λ l. g (f x) ∷ l) (map-map g f xs)
+
+pub lent_some : (cs : List (Bor Change)) → map (λ c. Some c) (lent_changes cs) ≡ map (λ (c : Bor Change). Some c.now) cs
+lent_some cs = map-map (λ (c : Change). Some c) (λ (c : Bor Change). c.now) cs
+
+pub lent_actors : (cs : List (Bor Change)) → dedup same_bytes (sorted_by bytes_cmp (map (λ (c : Bor Change). c.now.actor) cs)) ≡ actors_once (lent_changes cs)
+lent_actors cs = ap (λ l. dedup same_bytes (sorted_by bytes_cmp l)) (sym (map-map (λ (c : Change). c.actor) (λ (c : Bor Change). c.now) cs))
+
+pub lent_metas : (hs : List Hash) (cs : List (Bor Change)) → map (λ (c : Bor Change). row_with hs c.now) cs ≡ map (row_with hs) (lent_changes cs)
+lent_metas hs cs = sym (map-map (row_with hs) (λ (c : Bor Change). c.now) cs)

@@ -9,13 +9,13 @@ use am_types::{ActorFault, ActorId, Change, List};
 use std::alloc::{AllocError, Global};
 
 // The bytes of each change's author.
-fn authors<'a>(alloc: Global, changes: &'a [Change]) -> Result<Vec<&'a [u8]>, AllocError>
-    ensures authors { IfOk result (λ authors. map (λ a. a.now) authors.items ≡ map (λ c. c.actor) changes.now) }
+fn authors<'a>(alloc: Global, changes: &[&'a Change]) -> Result<Vec<&'a [u8]>, AllocError>
+    ensures authors { IfOk result (λ authors. map (λ a. a.now) authors.items ≡ map (λ c. c.now.actor) changes.now) }
     ensures allowed { IfOk result (λ authors. All (λ a. IsActor a.now) authors.items) }
 {
     let mut authors = Vec::new(alloc);
-    for change in changes {
-        authors.push(change.actor.as_slice())?;
+    for i in 0..changes.len() {
+        authors.push(changes[i].actor.as_slice())?;
     }
     Ok(authors)
 }
@@ -46,8 +46,8 @@ fn actors_of(alloc: Global, all: &[&[u8]]) -> Result<List<ActorId>, AllocError>
 }
 
 /// The authors of these changes, ascending, each once.
-pub fn authors_once(alloc: Global, changes: &[Change]) -> Result<List<ActorId>, AllocError>
-    ensures { IfOk result (λ actors. actors ≡ dedup same_bytes (sorted_by bytes_cmp (map (λ c. c.actor) changes.now))) }
+pub fn authors_once(alloc: Global, changes: &[&Change]) -> Result<List<ActorId>, AllocError>
+    ensures { IfOk result (λ actors. actors ≡ dedup same_bytes (sorted_by bytes_cmp (map (λ c. c.now.actor) changes.now))) }
 {
     let mut authors = authors(alloc, changes)?;
     authors.sort_unstable();

@@ -5,6 +5,8 @@
 mod actors;
 mod chunk;
 mod copies;
+#[cfg(test)]
+mod document_tests;
 mod fault;
 mod file;
 #[cfg(test)]

@@ -44,6 +44,24 @@ pub fn changes_with(
     Ok(list)
 }
 
+/// The same changes, lent.
+pub fn lent_with<'a>(
+    alloc: Global,
+    graph: &Graph,
+    entries: &'a [(Hash, Change)],
+    hashes: &[Hash],
+) -> Result<Vec<&'a Change>, AllocError>
+    requires of_set { graph.now ≡ nodes (members_of entries.now) }
+    requires held { All (λ h. holds (members_of entries.now) h ≡ true) hashes.now }
+    ensures { IfOk result (λ list. map (λ c. Some c.now) list.items ≡ map (λ h. option_map (λ m. m.change) (member (members_of entries.now) h)) hashes.now) }
+{
+    let mut list = Vec::new(alloc);
+    for hash in hashes {
+        list.push(change_at(graph, entries, hash))?;
+    }
+    Ok(list)
+}
+
 /// These hashes, for look-ups.
 fn set_of(alloc: Global, hashes: &[Hash]) -> Result<BTreeSet<Hash>, AllocError>
     ensures { IfOk result (λ set. (h : AHash) → contains hash_cmp set h ≡ among hash_cmp hashes.now h) }

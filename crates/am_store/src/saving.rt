@@ -10,7 +10,7 @@ ghost use Rattle.am_store.specs.Saved.{document, chunks};
 
 use crate::table::table_of;
 use am_change::chunk_of;
-use am_doc::{sets_are_writable, write_document};
+use am_doc::{sets_are_writable, write_lent};
 use am_frame::framed;
 use am_graph::Graph;
 use am_types::{Bytes, Change, Hash};
@@ -29,7 +29,7 @@ pub fn document_of(
 {
     sets_are_writable();
     let table = table_of(alloc, graph, entries)?;
-    let contents = write_document(alloc, &table)?;
+    let contents = write_lent(alloc, &table)?;
     framed(alloc, 0, contents.as_slice())
 }
 

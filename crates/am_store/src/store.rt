@@ -212,8 +212,6 @@ impl Store {
     pub fn save(&self, alloc: Global) -> Result<Bytes, AllocError>
         ensures { IfOk result (λ file. file ≡ document self.now.closed) }
     {
-        // The changes are copied into canonical order, and the table owns its rows: while it is made, all operations are
-        // in memory three times.
         document_of(alloc, &self.graph, self.closed.as_slice())
     }
 
