@@ -24,8 +24,7 @@ push_row-requires-clause-room c =
 
 pub loop-i-preserved : goal.loop-i-preserved
 loop-i-preserved c =
-    let low : c.loop-i.i < length c.args.rows.now = omega (arith, c.len-i-end.ensures, c.loop-i-test.true) in
-    (
+    let low : c.loop-i.i < length c.args.rows.now = omega (arith, c.len-i-end.ensures, c.loop-i-test.true) in (
       c.push_row.ensures.actors ∙ c.loop-i.invariant.0,
       pushed_next c.args.rows.now c.loop-i.i (lent_row c.get.result) (lent_row c.get.result) c.loop-i.writer.1 c.push_row.new.writer.1 low c.get.ensures refl c.loop-i.invariant.1 c.in_ok-push_row.ensures.ok,
     )
