@@ -1,0 +1,4 @@
+mod Same
+mod Keeping
+pub mod Looking
+mod Texts
