@@ -2,3 +2,4 @@ pub mod Views
 pub mod Kept
 pub mod Resting
 pub mod Deciding
+pub mod Uses

@@ -2,9 +2,11 @@
 #![tactic(auto)]
 
 mod cache;
+mod laws;
 #[cfg(test)]
 mod tests;
 mod view;
 
 pub use cache::Cache;
+pub use laws::{goes_after_sixteen, stays_among_fifteen, was_put_last};
 pub use view::View;
