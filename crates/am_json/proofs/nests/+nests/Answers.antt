@@ -1,37 +1,45 @@
-use Rattle.std.proofs.Common.{◌≤◌, arith, ap, sym, true≢false}
-use Rattle.serde_json.specs.Data.{depth, members_depth}
-use Rattle.serde_json.specs.View.{view, members_view}
-use Rattle.am_json.proofs.Depths.{next_item}
+use Rattle.std.proofs.Common.{◌≡◌, true, false, filter, ap, sym, ◌∙◌, refl, arith, true≢false}
+use Rattle.serde_json.specs.Data.{depth}
+use Rattle.am_types.specs.Views.{object_of}
+use Rattle.am_json.specs.Entries.{is_in}
+use Rattle.am_json.specs.Shown.{is_string, is_array}
+use Rattle.am_json.proofs.Levels.{object_zero}
+use Rattle.am_json.proofs.ByRuns.{shows_string, shows_array, shows_object, nests_more}
 use Rattle.am_json.proofs.nests.+nests.Goals as goal
 
-pub items_nest-loop-item-preserved : goal.items_nest-loop-item-preserved
-items_nest-loop-item-preserved t c =
-    let e = next_item c.deref-item-items.result.now c.loop-item.item-index c.item-item.result c.loop-item-test.true c.item-item.is in
-    let small : depth (view c.item-item.result) ≤ c.args.limit = c.nests.ensures.0 c.if-not-nests.false in
-    record {
-      down = omega (arith, e, c.loop-item.invariant.down);
-      up = λ h. c.loop-item.invariant.up (omega (arith, e, small, h));
-    }
+pub nests-returns-then-levels-eq0 : goal.nests-returns-then-levels-eq0
+nests-returns-then-levels-eq0 t c =
+    rw (object_zero c.args.form c.args.levels c.args.entries.now (object_of c.args.object) c.args.action c.if-levels-eq0.true) (λ h. omega arith, λ h. refl)
 
-pub items_nest-returns-then-not-nests : goal.items_nest-returns-then-not-nests
-items_nest-returns-then-not-nests t c =
-    let e = next_item c.deref-item-items.result.now c.loop-item.item-index c.item-item.result c.loop-item-test.true c.item-item.is in (
-      λ h. absurd (true≢false (sym h)),
-      λ h. let r = c.nests.ensures.1 (omega (arith, e, c.loop-item.invariant.down, h)) in rw c.if-not-nests.true at r,
-    )
+pub nests-returns-then-shows_string : goal.nests-returns-then-shows_string
+nests-returns-then-shows_string t c =
+    let o = object_of c.args.object in
+    let es = c.args.entries.now in
+    let text : is_string c.args.form c.args.action ≡ true = sym c.shows_string.ensures ∙ c.if-shows_string.true in
+    rw (shows_string c.args.form c.args.levels es o c.args.action (filter (is_in o) es) c.requires refl c.if-levels-eq0.false text) (λ h. omega arith, λ h. refl)
 
-pub members_nest-loop-key-preserved : goal.members_nest-loop-key-preserved
-members_nest-loop-key-preserved t c =
-    let e = ap (λ es. members_depth (members_view es)) c.in-Some.ensures.steps in
-    let small : depth (view c.in-Some.member.now) ≤ c.args.limit = c.nests.ensures.0 c.if-not-nests.false in
-    record {
-      down = omega (arith, e, c.loop-key.invariant.down);
-      up = λ h. c.loop-key.invariant.up (omega (arith, e, small, h));
-    }
+pub nests-returns-then-limit-eq0 : goal.nests-returns-then-limit-eq0
+nests-returns-then-limit-eq0 t c =
+    let o = object_of c.args.object in
+    let es = c.args.entries.now in
+    let text : is_string c.args.form c.args.action ≡ false = sym c.shows_string.ensures ∙ c.if-shows_string.false in
+    let more = nests_more c.args.form c.args.levels es o c.args.action (filter (is_in o) es) c.requires refl c.if-levels-eq0.false text in
+    (λ h. absurd (true≢false (sym h)), λ h. absurd (omega (arith, more, h, c.if-limit-eq0.true)))
 
-pub members_nest-returns-then-not-nests : goal.members_nest-returns-then-not-nests
-members_nest-returns-then-not-nests t c =
-    let e = ap (λ es. members_depth (members_view es)) c.in-Some.ensures.steps in (
-      λ h. absurd (true≢false (sym h)),
-      λ h. let r = c.nests.ensures.1 (omega (arith, e, c.loop-key.invariant.down, h)) in rw c.if-not-nests.true at r,
-    )
+pub nests-returns-then-shows_array : goal.nests-returns-then-shows_array
+nests-returns-then-shows_array t c =
+    let o = object_of c.args.object in
+    let es = c.args.entries.now in
+    let text : is_string c.args.form c.args.action ≡ false = sym c.shows_string.ensures ∙ c.if-shows_string.false in
+    let list : is_array c.args.action ≡ true = sym c.shows_array.ensures ∙ c.if-shows_array.true in
+    let e = ap depth (shows_array c.args.form c.args.levels es o c.args.action c.entries_of-own.result.now c.requires c.entries_of-own.ensures c.if-levels-eq0.false text list) in
+    (λ h. let small = c.items_nest.ensures.0 h in omega (arith, e, small, c.if-limit-eq0.false), λ h. c.items_nest.ensures.1 (omega (arith, e, h)))
+
+pub nests-returns : goal.nests-returns
+nests-returns t c =
+    let o = object_of c.args.object in
+    let es = c.args.entries.now in
+    let text : is_string c.args.form c.args.action ≡ false = sym c.shows_string.ensures ∙ c.if-shows_string.false in
+    let list : is_array c.args.action ≡ false = sym c.shows_array.ensures ∙ c.if-shows_array.false in
+    let e = ap depth (shows_object c.args.form c.args.levels es o c.args.action c.entries_of-own.result.now c.requires c.entries_of-own.ensures c.if-levels-eq0.false text list) in
+    (λ h. let small = c.members_nest.ensures.0 h in omega (arith, e, small, c.if-limit-eq0.false), λ h. c.members_nest.ensures.1 (omega (arith, e, h)))
