@@ -5,6 +5,8 @@ ghost use Rattle.std.specs.Option.{option_copied};
 ghost use Rattle.am_types.specs.declared.Table.{Table as ATable};
 ghost use Rattle.am_colmeta.specs.Judgement.{AreCompressed};
 ghost use Rattle.am_fields.specs.Limits.{IsShortActor};
+ghost use Rattle.am_doc.specs.Fronts.{IsFront};
+ghost use Rattle.am_doc.specs.Sound.{IsSpelled};
 ghost use Rattle.am_doc.specs.Spelling.{SpellsBehind, Judges};
 ghost use Rattle.am_doc.specs.Reading.{front_of};
 
@@ -43,6 +45,10 @@ impl<'a> Model for DocRef<'a> {
     ghost Value = { Table };
 
     ghost view = { λ d. table_with d.actors d.heads d.metas d.rows d.suffix.now };
+
+    ghost use Rattle.am_doc.specs.Sound.{IsSpelled};
+
+    ghost invariant = { λ d. IsSpelled (table_with d.actors d.heads d.metas d.rows d.suffix.now) };
 }
 
 // Whether each actor has 1 to 1,024 bytes.
@@ -60,6 +66,7 @@ fn are_short(actors: &ActorList<'_>) -> bool
 
 // The document with this front, and this behind it; None where that is no document's.
 fn opened<'a>(front: &FrontRef<'a>, rest: &'a [u8]) -> Option<DocRef<'a>>
+    requires { IsFront (front_of front.now) }
     ensures spelled { IfSome result (SpellsBehind (front_of front.now) rest.now) }
     ensures none { IfNone result ((t : ATable) → (AreCompressed front.now.metas → ⊥) → (AreCompressed front.now.rows → ⊥) → SpellsBehind (front_of front.now) rest.now t → ⊥) }
 {
@@ -111,6 +118,13 @@ impl<'a> DocRef<'a> {
         }
     }
 
+    /// Some contents spell its table. Nothing is done.
+    pub fn is_spelled(&self)
+        ensures { IsSpelled self.now }
+    {
+        let _ = &self.actors;
+    }
+
     /// The operation rows, one after another.
     pub fn rows(&self) -> RowCursor<'a>
         ensures { result ≡ self.now.rows }
@@ -137,6 +151,13 @@ impl<'a> DocRef<'a> {
         ensures { result ≡ slice_get self.now.heads i }
     {
         self.heads.get(i)
+    }
+
+    /// The actors, one after another.
+    pub fn actors(&self) -> ActorList<'a>
+        ensures { result ≡ self.now.actors }
+    {
+        self.actors.again()
     }
 
     /// How many actors are listed.

@@ -1,7 +1,9 @@
-use Rattle.std.proofs.Common.{◌≡◌, ◌++◌, ℕ, List, length, sym, ap, subst, ◌∙◌}
+use Rattle.std.proofs.Common.{rules, ◌≡◌, ◌++◌, ℕ, List, length, refl, sym, ap, subst, ◌∙◌}
 use Rattle.am_colmeta.specs.Metadata.{body}
 use Rattle.am_doccols.specs.Columns.{SpellsMetas, SpellsRows}
 use Rattle.am_doccols.proofs.OneReading.{metas-same}
+use Rattle.am_doc.specs.Fronts.{front_bytes}
+use Rattle.am_doc.specs.Reading.{front_of}
 use Rattle.am_doc.specs.Spelling.{IsSuffix}
 use Rattle.am_doc.proofs.doc_ref.opened.Goals as goal
 
@@ -33,3 +35,15 @@ returns-then-not-is_suffix-clause-none c = λ t plain plain_rows s.
     let P : ℕ → ℕ → List ℕ → Type 0 = λ h m b. IsSuffix h m b t.suffix in
     let there = subst (λ h. P h c.left.result c.in_ok-rows.suffix.now) (sym count) (subst (λ m. P (length c.args.front.now.heads) m c.in_ok-rows.suffix.now) (sym left) (subst (λ (b : List ℕ). P (length c.args.front.now.heads) (length t.metas) b) (sym second.1) s.is_suffix)) in
     absurd (cc (c.if-not-is_suffix.ensures.only t.suffix there).0)
+
+pub invariant_of-result : goal.invariant_of-result
+invariant_of-result c = record {
+  bytes = front_bytes (front_of c.args.front.now) ++ c.args.rest.now;
+  spelled = record {
+    front = front_of c.args.front.now;
+    rest = c.args.rest.now;
+    is_front = c.requires;
+    bytes_are = refl;
+    behind = search rules;
+  };
+}
