@@ -1,0 +1,5 @@
+pub mod Reads
+pub mod Steps
+pub mod Borrowed
+pub mod Totals
+pub mod Laws

@@ -1,0 +1,13 @@
+//! What the rows of a document show at a clock: the visible entries, read off the rows in place.
+#![tactic(auto)]
+
+mod ahead;
+mod laws;
+mod shown;
+mod slots;
+mod tally;
+#[cfg(test)]
+mod tests;
+
+pub use laws::{reads_by_rows, walks_rows};
+pub use shown::Shown;
