@@ -1,0 +1,17 @@
+pub mod Authors
+pub mod Groups
+pub mod Deduped
+pub mod Ordered
+pub mod Bounds
+pub mod Walked
+pub mod Whole
+pub mod Loop
+pub mod Paths
+pub mod Apart
+pub mod Judging
+pub mod Grows
+pub mod Noted
+pub mod Grown
+pub mod Entries
+pub mod SameRows
+pub mod Documents

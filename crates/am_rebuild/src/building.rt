@@ -1,0 +1,55 @@
+//! Changes from change rows, one after the other.
+ghost use Rattle.am_types.specs.declared.Table.{Table};
+ghost use Rattle.am_types.specs.declared.Row.{Row};
+ghost use Rattle.am_histories.specs.Rebuilt.{change_at};
+ghost use Rattle.am_rebuild.specs.Mentions.{by_author, AreSortedMentions};
+ghost use Rattle.std.specs.List.Sorted.{IsSorted};
+ghost use Rattle.am_rebuild.specs.Joined.{TakesNext, BuildsAll};
+ghost use Rattle.std.specs.Prelude.{◌≡◌, [], ◌-◌, ◌^◌, ◌<◌, List, All, IfOk};
+
+use crate::change::change_at;
+use crate::joining::Joining;
+use crate::mention::{Named, sorted_mentions};
+use am_types::{Meta, Row};
+use std::alloc::{AllocError, Global};
+
+/// Takes in the change of a meta, where it joins.
+fn join_next<J: Joining>(
+    alloc: Global,
+    joining: &mut J,
+    all: &[Named<'_>],
+    meta: &Meta,
+) -> Result<bool, AllocError>
+    requires sorted { IsSorted by_author all.now }
+    requires max { meta.now.max < 2 ^ 53 }
+    ensures { IfOk result (λ joined. (rows : List Row) → AreSortedMentions rows all.now → TakesNext J.hash_of rows (J.members joining.old) meta.now (J.members joining.new) joined) }
+{
+    match change_at(alloc, joining, all, meta)? {
+        None => Ok(false),
+        Some(change) => {
+            let joined = joining.join(alloc, change)?;
+            Ok(joined)
+        }
+    }
+}
+
+/// Builds the changes of the metas, until one doesn't join.
+pub fn build<J: Joining>(
+    alloc: Global,
+    joining: &mut J,
+    rows: &[Row],
+    metas: &[Meta],
+) -> Result<bool, AllocError>
+    requires empty { J.members joining.old ≡ [] }
+    requires maxes { All (λ m. m.max < 2 ^ 53) metas.now }
+    ensures { IfOk result (λ built. (t : Table) → t.rows ≡ rows.now → t.metas ≡ metas.now → BuildsAll J.hash_of t (J.members joining.new) built) }
+{
+    let all = sorted_mentions(alloc, rows)?;
+    for meta in metas {
+        let joined = join_next(alloc, joining, &all, meta)?;
+        if !joined {
+            return Ok(false);
+        }
+    }
+    Ok(true)
+}

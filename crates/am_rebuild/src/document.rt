@@ -1,0 +1,98 @@
+//! Rebuilding the changes of a document.
+ghost use Rattle.std.specs.Prelude.{◌≡◌, ◌<◌, ◌^◌, All, IfOk, IsTrue, vec_items};
+ghost use Rattle.am_types.specs.declared.Table.{Table as ATable};
+ghost use Rattle.am_types.specs.Order.{bytes_cmp, hash_cmp, among, Ascends};
+ghost use Rattle.am_types.specs.Deliver.{MayCome};
+ghost use Rattle.am_change.specs.Hashes.{own_hash};
+ghost use Rattle.am_delivery.specs.Waiting.{members_of};
+ghost use Rattle.am_histories.specs.Laws.{table_actors};
+ghost use Rattle.am_doc.specs.Sound.{IsSound};
+ghost use Rattle.am_rebuild.specs.Judged.{IsJudged};
+ghost use Rattle.am_rebuild.specs.Documents.{Rebuilds, bare, without_hashes, AreOwn};
+
+use crate::copying::{actors_in, metas_in, rows_in};
+use crate::fault::RebuildFault;
+use crate::gathered::Gathered;
+use crate::judgement::{Judgement, judge};
+use am_doc::{DocRef, spelled_tables_are_sound};
+use am_types::{Change, Hash, List, Table};
+use std::alloc::{AllocError, Global};
+
+/// The stated heads, owned.
+fn heads_in(alloc: Global, doc: &DocRef<'_>) -> Result<List<Hash>, AllocError>
+    ensures { IfOk result (λ heads. heads ≡ doc.now.heads) }
+{
+    let mut heads = List::new(alloc);
+    for i in 0..doc.head_count() {
+        match doc.head(i) {
+            Some(hash) => heads.push(hash)?,
+            None => unreachable!(),
+        }
+    }
+    Ok(heads)
+}
+
+/// The table of the document, owned, without the places of the heads.
+fn table_in(alloc: Global, doc: &DocRef<'_>) -> Result<Table, AllocError>
+    requires { IsSound doc.now }
+    ensures { IfOk result (λ table. table ≡ bare doc.now) }
+{
+    Ok(Table {
+        actors: actors_in(alloc, doc.actors())?,
+        heads: heads_in(alloc, doc)?,
+        metas: metas_in(alloc, doc.metas())?,
+        rows: rows_in(alloc, doc.rows())?,
+        suffix: None,
+    })
+}
+
+/// The changes that joined, and what is found of the table.
+fn judged_in(alloc: Global, table: &Table) -> Result<(Gathered, Judgement), AllocError>
+    requires maxes { All (λ m. m.max < 2 ^ 53) table.now.metas }
+    requires heads { Ascends hash_cmp table.now.heads }
+    requires actors { All (λ a. IsTrue (among bytes_cmp table.now.actors a)) (table_actors table.now) }
+    ensures { IfOk result (λ r. IsJudged own_hash table.now r.0 r.1) }
+{
+    let mut gathered = Gathered::new(alloc);
+    let judgement = judge(alloc, &mut gathered, table)?;
+    Ok((gathered, judgement))
+}
+
+/// What is answered where this is found.
+fn answer(gathered: Gathered, judgement: Judgement) -> Result<Vec<(Hash, Change)>, RebuildFault>
+    ensures judged { (t : ATable) → IsJudged own_hash (bare t) gathered judgement → Rebuilds t (without_hashes result) }
+    ensures own_hashes { (t : ATable) → IsJudged own_hash (bare t) gathered judgement → IfOk result (λ pairs. AreOwn (vec_items pairs)) }
+    ensures may_come { (t : ATable) → IsJudged own_hash (bare t) gathered judgement → IfOk result (λ pairs. All MayCome (members_of (vec_items pairs))) }
+{
+    match judgement {
+        Judgement::Whole => Ok(gathered.into_entries()),
+        Judgement::OtherHeads(hash) => Err(RebuildFault::HeadsMismatch(hash)),
+        Judgement::NoHistory => Err(RebuildFault::NoHistory),
+    }
+}
+
+/// The changes of which a document tells, each behind its own hash, in the order of its change rows. Refused as `rebuild` is.
+pub fn rebuild_hashed(alloc: Global, doc: DocRef<'_>) -> Result<Vec<(Hash, Change)>, RebuildFault>
+    ensures judged { Rebuilds doc.entry (without_hashes result) }
+    ensures own_hashes { IfOk result (λ pairs. AreOwn (vec_items pairs)) }
+    ensures may_come { IfOk result (λ pairs. All MayCome (members_of (vec_items pairs))) }
+{
+    doc.is_spelled();
+    spelled_tables_are_sound();
+    let table = table_in(alloc, &doc)?;
+    let (gathered, judgement) = judged_in(alloc, &table)?;
+    answer(gathered, judgement)
+}
+
+/// The changes of which a document tells, in the order of its change rows. NoHistory where it tells of none, in that no valid
+/// set of changes has these rows and change rows; HeadsMismatch where it does, and states other heads than theirs.
+pub fn rebuild(alloc: Global, doc: DocRef<'_>) -> Result<List<Change>, RebuildFault>
+    ensures judged { Rebuilds doc.entry result }
+{
+    let pairs = rebuild_hashed(alloc, doc)?;
+    let mut changes = List::new(alloc);
+    for (_, change) in pairs {
+        changes.push(change)?;
+    }
+    Ok(changes)
+}

@@ -1,0 +1,94 @@
+//! What is found of a table: its one history with its heads, its history with other heads, or none.
+ghost use Rattle.std.specs.Prelude.{◌≡◌, ◌<◌, ◌^◌, ◌↔◌, [], All, IsTrue, IfOk};
+ghost use Rattle.am_types.specs.Order.{bytes_cmp, hash_cmp, among, Ascends};
+ghost use Rattle.am_histories.specs.Laws.{table_actors};
+ghost use Rattle.am_rebuild.specs.Judged.{first_apart, IsJudged};
+
+use crate::building::build;
+use crate::joining::Joining;
+use am_types::{ActorId, Hash, Table};
+use std::alloc::{AllocError, Global};
+use std::cmp::Ordering;
+
+/// What is found of a table.
+#[derive(Clone, Copy, Debug)]
+pub enum Judgement {
+    /// The changes that joined are its history, and their heads are the stated ones.
+    Whole,
+    /// The changes that joined are its history, and this is the least hash that only one of the two lists of heads has.
+    OtherHeads(Hash),
+    /// It has no history.
+    NoHistory,
+}
+
+fn compare_hashes(a: &Hash, b: &Hash) -> Ordering
+    ensures { result ≡ hash_cmp a.now b.now }
+{
+    a.0.as_slice().cmp(b.0.as_slice())
+}
+
+/// Whether each actor is below the next.
+fn actors_ascend(actors: &[ActorId]) -> bool
+    ensures { IsTrue result ↔ Ascends bytes_cmp actors.now }
+{
+    for i in 1..actors.len() {
+        if actors[i - 1].as_slice().cmp(actors[i].as_slice()) != Ordering::Less {
+            return false;
+        }
+    }
+    true
+}
+
+/// The first difference of two ascending lists.
+fn first_apart(a: &[Hash], b: &[Hash]) -> Option<Hash>
+    ensures { result ≡ first_apart a.now b.now }
+{
+    for i in 0..a.len() {
+        if i >= b.len() {
+            return Some(a[i]);
+        }
+        match compare_hashes(&a[i], &b[i]) {
+            Ordering::Less => return Some(a[i]),
+            Ordering::Greater => return Some(b[i]),
+            Ordering::Equal => {}
+        }
+    }
+    if b.len() > a.len() {
+        Some(b[a.len()])
+    } else {
+        None
+    }
+}
+
+/// Rebuilds the changes of a table, and judges it.
+pub fn judge<J: Joining>(
+    alloc: Global,
+    joining: &mut J,
+    table: &Table,
+) -> Result<Judgement, AllocError>
+    requires empty { J.members joining.old ≡ [] }
+    requires maxes { All (λ m. m.max < 2 ^ 53) table.now.metas }
+    requires heads { Ascends hash_cmp table.now.heads }
+    requires actors { All (λ a. IsTrue (among bytes_cmp table.now.actors a)) (table_actors table.now) }
+    ensures { IfOk result (IsJudged J.hash_of table.now (J.members joining.new)) }
+{
+    if !actors_ascend(table.actors.as_slice()) {
+        return Ok(Judgement::NoHistory);
+    }
+    if !build(
+        alloc,
+        joining,
+        table.rows.as_slice(),
+        table.metas.as_slice(),
+    )? {
+        return Ok(Judgement::NoHistory);
+    }
+    if !joining.has_rows(alloc, table.rows.as_slice())? {
+        return Ok(Judgement::NoHistory);
+    }
+    let heads = joining.heads(alloc)?;
+    match first_apart(heads.as_slice(), table.heads.as_slice()) {
+        None => Ok(Judgement::Whole),
+        Some(hash) => Ok(Judgement::OtherHeads(hash)),
+    }
+}

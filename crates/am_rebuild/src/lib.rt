@@ -1,0 +1,29 @@
+//! The changes of a document, rebuilt from its rows.
+#![tactic(auto)]
+
+mod author;
+mod building;
+mod change;
+mod copying;
+mod document;
+mod fault;
+mod gathered;
+mod group;
+mod joining;
+mod judgement;
+mod lasts;
+mod mention;
+mod order;
+mod path;
+mod rebuilding;
+mod same_rows;
+#[cfg(test)]
+mod tests;
+
+pub use building::build;
+pub use document::{rebuild, rebuild_hashed};
+pub use fault::RebuildFault;
+pub use gathered::Gathered;
+pub use joining::Joining;
+pub use judgement::{Judgement, judge};
+pub use order::rows_in_order;
