@@ -17,7 +17,7 @@ use Rattle.am_types.specs.Deliver.{MayCome}
 use Rattle.am_types.proofs.Orders.{hash_total, same_hash-true}
 use Rattle.am_change.specs.Contents.{hash}
 use Rattle.am_delivery.specs.Waiting.{member_of, members_of}
-use Rattle.am_store.specs.Kept.{with_hash, with_hashes}
+use Rattle.am_change.specs.Hashes.{with_hash, with_hashes}
 
 module _ (pairs : List (Hash × Change)) (cs : List Change) (i : ℕ) (d : Change) (l : i < length cs) (h : Hash) (c : Change) (own : h.0 ≡ hash (get_or cs i d)) (twin : c ≡ get_or cs i d) where
   pub more_hashed : members_of pairs ≡ with_hashes (take i cs) → members_of (pairs ++ (h, c) ∷ []) ≡ with_hashes (take (i + 1) cs)

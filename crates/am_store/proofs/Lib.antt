@@ -3,6 +3,8 @@ pub mod Chunking
 pub mod FirstChunk
 pub mod Grows
 pub mod Hashes
+pub mod Inversion
+pub mod OneDocument
 pub mod Ordered
 pub mod Picking
 pub mod Placing
@@ -11,3 +13,4 @@ pub mod Tabled
 pub mod Taking
 pub mod Telling
 pub mod Unambiguous
+pub mod Verdicts

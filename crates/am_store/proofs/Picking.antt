@@ -4,7 +4,7 @@ use Rattle.std.specs.List.{slice_get}
 use Rattle.std.specs.List.Sorted.{IsStrictlySortedBy}
 use Rattle.std.specs.declared.cmp.Ordering.TheVariants.{Less}
 use Rattle.std.proofs.lemmas.Bool.{both_ways}
-use Rattle.std.proofs.lemmas.List.{map-append, take_more, length-map}
+use Rattle.std.proofs.lemmas.List.{map-append, take_more, length-map, get_or-map}
 use Rattle.std.proofs.lemmas.List.Elements.{filter_agree, filter-append, Contains-get_or, All-map}
 use Rattle.std.proofs.lemmas.List.Sorted.{Contains-permutation, list_any-IsPermutation, IsPermutation-sym}
 use Rattle.std.proofs.lemmas.Map.Keys.{sorted_head, sorted_tail}
@@ -16,9 +16,12 @@ use Rattle.am_types.specs.Members.{Member, hashes, changes, member, holds}
 use Rattle.am_types.specs.Same.{same_change}
 use Rattle.am_types.specs.Ancestors.{ancestors}
 use Rattle.am_types.specs.Canonical.{canonical_cmp, order}
+use Rattle.am_types.specs.Deliver.{MayCome}
+use Rattle.am_types.specs.Fine.{Fine}
 use Rattle.am_types.specs.ValidSets.{Valid}
 use Rattle.am_types.proofs.Sorting.{IsPermutation-sorted_by}
 use Rattle.am_laws.proofs.SharedAncestors.{ancestors_keep_order}
+use Rattle.am_change.specs.Contents.{chunk}
 use Rattle.am_graph.specs.declared.Node.{Node}
 use Rattle.am_graph.specs.Graphs.{nodes, is_held}
 use Rattle.am_graph.proofs.Held.{is_held-nodes}
@@ -26,6 +29,7 @@ use Rattle.am_delivery.specs.Waiting.{member_of, members_of}
 use Rattle.am_delivery.proofs.Lists.{Within, Contains-here, Contains-later, found_is, find_none, any_none}
 use Rattle.am_delivery.proofs.Members.{Unique, unique, holds_it, distinct_from_once}
 use Rattle.am_delivery.proofs.Parts.{good_valid}
+use Rattle.am_store.specs.Saved.{chunk_in}
 use Rattle.am_types.proofs.Orders.{same_hash-true, same_hash_itself}
 use Rattle.am_delivery.proofs.Steady.{absent}
 
@@ -58,6 +62,19 @@ told_same es h c d = told (member (members_of es) h)
 
 pub none_held : (C : List Member) (h : Hash) → member C h ≡ None → holds C h ≡ true → ⊥
 none_held C h e t = both_ways (holds C h) (absent C h e) t
+
+-- the chunk of what a look-up gives
+pub chunk_found : (C : List Member) (h : Hash) (c : Change) (bytes : List ℕ) → found C h ≡ Some c → bytes ≡ chunk c → Some bytes ≡ chunk_in C h
+chunk_found C h c bytes e is = told (member C h) e
+  where
+    told : (o : Option Member) → option_map change_of o ≡ Some c → Some bytes ≡ option_map (λ (m : Member). chunk m.change) o
+    told None e = cc
+    told (Some m) e = let same : m.change ≡ c = cc in ap (λ (b : List ℕ). Some b) (is ∙ ap chunk (sym same))
+
+pub fine_there : (es : List (Hash × Change)) (place : ℕ) (d : Hash × Change) → All MayCome (members_of es) → place < length es → Fine (get_or es place d).1
+fine_there es place d all l =
+    let long = length-map es member_of in
+    subst (λ (m : Member). Fine m.change) (get_or-map member_of es place d (member_of d) l) (all place (member_of d) (omega arith)).fine
 
 -- ---- the changes with some hashes
 

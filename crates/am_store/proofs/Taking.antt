@@ -1,5 +1,5 @@
 -- What a delivery leaves in a store.
-use Rattle.std.proofs.Common.{ℕ, ◌≡◌, ◌≤◌, ◌+◌, Option, List, [], ◌∷◌, ◌++◌, length, map, get_or, All, Contains, IsPermutation, BTreeMap, refl, sym, ap, ◌∙◌, subst, inl, inr, arith}
+use Rattle.std.proofs.Common.{ℕ, ◌≡◌, ◌≤◌, ◌+◌, Option, List, [], ◌++◌, length, get_or, Contains, IsPermutation, BTreeMap, refl, sym, ap, ◌∙◌, subst, inl, inr, arith}
 use Rattle.std.proofs.lemmas.List.{map-append, append-nil, length-append, length-map}
 use Rattle.std.proofs.lemmas.List.Elements.{All-map, All-contains, Contains-get_or, Contains-append_left, Contains-append_right, Contains-append_cases}
 use Rattle.std.proofs.lemmas.List.Sorted.{IsPermutation-sym, Contains-permutation}
@@ -11,14 +11,12 @@ use Rattle.am_types.specs.Deliver.{Sets, AreStored, deliver}
 use Rattle.am_graph.specs.declared.Node.{Node}
 use Rattle.am_fits.specs.Indexes.{Indexed, AreOf}
 use Rattle.am_change.specs.Contents.{hash}
+use Rattle.am_change.specs.Hashes.{with_hash, with_hashes}
 use Rattle.am_change.specs.Judgement.{HasOwnHashes}
 use Rattle.am_delivery.specs.Laws.{KeepsWhatCame, JoinsNoMore}
 use Rattle.am_delivery.specs.Waiting.{member_of, members_of, waiting_of, IsTracked}
 use Rattle.am_delivery.specs.declared.Pending.{Pending}
-use Rattle.am_store.specs.Kept.{IsKept, Takes, with_hash, with_hashes}
-use Rattle.am_store.specs.Files.{IsFile}
-use Rattle.am_store.proofs.ReadSteps.{singles, hold_singles, join_singles}
-use Rattle.am_store.specs.Reading.{HasRead, changes_of}
+use Rattle.am_store.specs.Kept.{IsKept, Takes}
 
 abbrev IsOwn : Member → Type 0
 IsOwn m = m.hash.0 ≡ hash m.change
@@ -107,12 +105,3 @@ module _ (old : List (Hash × Change)) (w v : BTreeMap Hash Change) (copied : v.
           omega arith;
       wait = wait;
     }
-
-pub file_read : (only : Rattle.std.proofs.Common.Bool) (bytes : List ℕ) (pairs : List (Hash × Change)) → HasRead bytes [] pairs → IsFile only bytes (changes_of pairs)
-file_read only bytes pairs r = record {
-  chunks = r.chunks;
-  lists = singles (changes_of pairs);
-  file = record { bytes_are = r.bytes_are ∙ append-nil _; each = r.each };
-  hold = hold_singles only r.chunks (changes_of pairs) r.hold;
-  are = join_singles (changes_of pairs);
-}

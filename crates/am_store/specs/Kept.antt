@@ -1,18 +1,15 @@
 -- What a store keeps, and what a delivery does to it.
 --     Kept                        the two sets of a store, closed and waiting
---     own_hash c                  the hash of the change c
---     with_hashes cs              the changes cs, each beside its own hash
 --     IsKept k                    what holds of the two sets of each store
 --     counts_of k                 how many changes there are, and how many operations, predecessors and dependencies
 --     Takes old L r new           the members L, delivered to the sets old, leave the sets new, with the report r
 --     Delivered old cs r new      the same of the changes cs, each beside its own hash
-use Rattle.std.specs.Prelude.{◌≡◌, ◌+◌, List, ◌++◌, map, length, sum_by, IsPermutation}
-use Rattle.am_types.specs.declared.Hash.{Hash}
+use Rattle.std.specs.Prelude.{◌≡◌, ◌+◌, List, ◌++◌, length, sum_by, IsPermutation}
 use Rattle.am_types.specs.declared.Change.{Change}
 use Rattle.am_types.specs.Fine.{pred_count}
 use Rattle.am_types.specs.Members.{Member, changes}
 use Rattle.am_types.specs.Deliver.{AreStored, deliver}
-use Rattle.am_change.specs.Contents.{hash}
+use Rattle.am_change.specs.Hashes.{with_hashes}
 use Rattle.am_change.specs.Judgement.{HasOwnHashes}
 use Rattle.am_store.specs.declared.report.Report.{Report}
 use Rattle.am_store.specs.declared.report.Counts.{Counts}
@@ -20,15 +17,6 @@ use Rattle.am_store.specs.declared.report.Counts.{Counts}
 pub record Kept : Type 0 where
   pub closed : List Member
   pub waiting : List Member
-
-abbrev pub own_hash : Change → Hash
-own_hash c = record { 0 = hash c }
-
-abbrev pub with_hash : Change → Member
-with_hash c = record { hash = own_hash c; change = c }
-
-abbrev pub with_hashes : List Change → List Member
-with_hashes cs = map with_hash cs
 
 -- the closed set is valid, the waiting changes are fine and lack a dependency, hashes are distinct, and each change
 -- stands beside its own

@@ -1,6 +1,7 @@
 pub mod Files
 pub mod Grown
 pub mod History
+pub mod Inversion
 pub mod Kept
 pub mod Laws
 pub mod Places

@@ -1,19 +1,20 @@
-//! The first chunk of a file of changes.
-ghost use Rattle.std.specs.Prelude.{◌≡◌, ◌<◌, ◌^◌, ◌++◌, Bool, List, ℕ, length, IfOk, IfErr};
-ghost use Rattle.am_types.specs.Fine.{Fine};
-ghost use Rattle.am_types.specs.Bytes.{IsHash};
-ghost use Rattle.am_frame.specs.Frames.{Chunk, IsChunk, chunk_of, chunk_bytes};
+//! The first chunk of a file.
+ghost use Rattle.std.specs.Prelude.{◌≡◌, ◌<◌, Bool, false, List, ℕ, length, IfOk, OnOk, IfErr, vec_items};
+ghost use Rattle.am_types.specs.declared.Change.{Change as AChange};
+ghost use Rattle.am_frame.specs.Frames.{IsChunk, chunk_of};
 ghost use Rattle.am_frame.specs.Faults as frame;
-ghost use Rattle.am_change.specs.Contents.{contents};
-ghost use Rattle.am_store.specs.Kept.{own_hash};
+ghost use Rattle.am_change.specs.Contents.{contents as contents_of};
+ghost use Rattle.am_change.specs.Hashes.{own_hash};
 ghost use Rattle.am_store.specs.Files.{HasFault};
-ghost use Rattle.am_store.specs.Reading.{MatchBad};
+ghost use Rattle.am_store.specs.Reading.{MatchBad, IsWrongWith, GivesPairs, Appends, ReadsOne};
 
 use crate::fault::LoadFault;
 use am_change::{ChangeFault, parse_change};
+use am_doc::{DocFault, DocRef, one_judgement};
 use am_frame::{FrameFault, next_frame};
+use am_rebuild::{RebuildFault, rebuild_hashed};
 use am_types::{Change, Hash, hash_known};
-use std::alloc::Global;
+use std::alloc::{AllocError, Global};
 
 /// Why the first chunk of some bytes wasn't read.
 #[derive(Clone, Copy)]
@@ -24,12 +25,15 @@ pub enum ChunkFault {
     NoMemory,
 }
 
-/// The change of a chunk, its hash, and what follows the chunk.
-#[derive(Drop)]
-pub struct First<'a> {
-    pub hash: Hash,
-    pub change: Change,
-    pub rest: &'a [u8],
+impl From<AllocError> for ChunkFault {
+    ghost use Rattle.std.specs.Prelude.{◌≡◌};
+    ghost use Rattle.am_store.specs.declared.chunk.ChunkFault.TheVariants.{NoMemory};
+
+    ghost from_gives = { λ _ e. e ≡ NoMemory };
+
+    fn from(_error: AllocError) -> ChunkFault {
+        ChunkFault::NoMemory
+    }
 }
 
 /// The same fault, as one of a file.
@@ -46,24 +50,19 @@ fn fault_of(fault: FrameFault) -> LoadFault
     }
 }
 
-/// The change of the first chunk.
-pub fn first_change(alloc: Global, bytes: &[u8]) -> Result<First<'_>, ChunkFault>
-    ensures chunk { IfOk result (λ first. bytes.now ≡ chunk_bytes (chunk_of 1 (contents first.change)) ++ first.rest.now) }
-    ensures is_chunk { IfOk result (λ first. IsChunk (chunk_of 1 (contents first.change))) }
-    ensures fine { IfOk result (λ first. Fine first.change) }
-    ensures own_hash { IfOk result (λ first. first.hash ≡ own_hash first.change) }
-    ensures is_hash { IfOk result (λ first. IsHash first.hash) }
-    ensures shorter { IfOk result (λ first. length first.rest.now < length bytes.now) }
-    ensures bad { (only : Bool) → IfErr result (λ fault. MatchBad fault (HasFault only bytes.now)) }
+/// Appends the change of a chunk with these contents and this hash.
+fn push_change(
+    alloc: Global,
+    hash: Hash,
+    contents: &[u8],
+    pairs: &mut Vec<(Hash, Change)>,
+) -> Result<(), ChunkFault>
+    requires is_chunk { IsChunk (chunk_of 1 contents.now) }
+    requires own { (c : AChange) → contents.now ≡ contents_of c → hash ≡ own_hash c }
+    ensures ok { (only : Bool) → OnOk result (Appends (GivesPairs only (chunk_of 1 contents.now)) (vec_items pairs.old) (vec_items pairs.new)) }
+    ensures bad { (only : Bool) → IfErr result (λ fault. MatchBad fault (IsWrongWith only (chunk_of 1 contents.now))) }
 {
-    let frame = match next_frame(bytes) {
-        Ok(frame) => frame,
-        Err(fault) => return Err(ChunkFault::Bad(fault_of(fault))),
-    };
-    if frame.kind == 0 {
-        return Err(ChunkFault::Bad(LoadFault::DocumentHere));
-    }
-    let change = match parse_change(alloc, frame.contents) {
+    let change = match parse_change(alloc, contents) {
         Ok(change) => change,
         Err(ChangeFault::CompressedColumn) => return Err(ChunkFault::Bad(
             LoadFault::CompressedColumn,
@@ -71,10 +70,63 @@ pub fn first_change(alloc: Global, bytes: &[u8]) -> Result<First<'_>, ChunkFault
         Err(ChangeFault::BadChange) => return Err(ChunkFault::Bad(LoadFault::BadChange)),
         Err(ChangeFault::NoMemory) => return Err(ChunkFault::NoMemory),
     };
-    hash_known(&frame.hash);
-    Ok(First {
-        hash: frame.hash,
-        change,
-        rest: frame.rest,
-    })
+    hash_known(&hash);
+    if pairs.push((hash, change)).is_err() {
+        return Err(ChunkFault::NoMemory);
+    }
+    Ok(())
+}
+
+/// Appends the changes of a document chunk with these contents.
+fn push_document(
+    alloc: Global,
+    contents: &[u8],
+    pairs: &mut Vec<(Hash, Change)>,
+) -> Result<(), ChunkFault>
+    requires { IsChunk (chunk_of 0 contents.now) }
+    ensures ok { OnOk result (Appends (GivesPairs false (chunk_of 0 contents.now)) (vec_items pairs.old) (vec_items pairs.new)) }
+    ensures bad { IfErr result (λ fault. MatchBad fault (IsWrongWith false (chunk_of 0 contents.now))) }
+{
+    one_judgement();
+    let doc = match DocRef::read(contents) {
+        Ok(doc) => doc,
+        Err(DocFault::CompressedColumn) => return Err(ChunkFault::Bad(LoadFault::CompressedColumn)),
+        Err(DocFault::BadDocument) => return Err(ChunkFault::Bad(LoadFault::BadDocument)),
+    };
+    let mut more = match rebuild_hashed(alloc, doc) {
+        Ok(more) => more,
+        Err(RebuildFault::NoHistory) => return Err(ChunkFault::Bad(LoadFault::NoHistory)),
+        Err(RebuildFault::HeadsMismatch(hash)) => return Err(ChunkFault::Bad(
+            LoadFault::HeadsMismatch(hash),
+        )),
+        Err(RebuildFault::NoMemory) => return Err(ChunkFault::NoMemory),
+    };
+    pairs.append(&mut more)?;
+    Ok(())
+}
+
+/// Appends the changes of the first chunk, each behind its hash. What follows the chunk.
+pub fn read_chunk<'a>(
+    alloc: Global,
+    bytes: &'a [u8],
+    only_changes: bool,
+    pairs: &mut Vec<(Hash, Change)>,
+) -> Result<&'a [u8], ChunkFault>
+    ensures ok { IfOk result (λ rest. ReadsOne bytes.now rest.now (λ chunk. Appends (GivesPairs only_changes chunk) (vec_items pairs.old) (vec_items pairs.new))) }
+    ensures shorter { IfOk result (λ rest. length rest.now < length bytes.now) }
+    ensures bad { IfErr result (λ fault. MatchBad fault (HasFault only_changes bytes.now)) }
+{
+    let frame = match next_frame(bytes) {
+        Ok(frame) => frame,
+        Err(fault) => return Err(ChunkFault::Bad(fault_of(fault))),
+    };
+    if frame.kind == 1 {
+        push_change(alloc, frame.hash, frame.contents, pairs)?;
+        return Ok(frame.rest);
+    }
+    if only_changes {
+        return Err(ChunkFault::Bad(LoadFault::DocumentHere));
+    }
+    push_document(alloc, frame.contents, pairs)?;
+    Ok(frame.rest)
 }

@@ -1,4 +1,5 @@
 //! Why a file wasn't read.
+use am_types::Hash;
 use std::alloc::AllocError;
 use thiserror::Error;
 
@@ -23,15 +24,24 @@ pub enum LoadFault {
     /// The chunk is a compressed change.
     #[error("the chunk is compressed")]
     CompressedChunk,
-    /// The chunk is a document.
+    /// The chunk is a document, where only changes may stand.
     #[error("the chunk is a document")]
     DocumentHere,
-    /// A column of the change is compressed.
+    /// A column of the change or of the document is compressed.
     #[error("a column is compressed")]
     CompressedColumn,
     /// The contents are those of no fine change.
     #[error("the contents are those of no change")]
     BadChange,
+    /// The contents are those of no document.
+    #[error("the contents are those of no document")]
+    BadDocument,
+    /// The document is that of no valid set of changes.
+    #[error("the document has no history")]
+    NoHistory,
+    /// The changes of the document have other heads than it states. This is the least hash that is among just one of the two.
+    #[error("the changes of the document have other heads")]
+    HeadsMismatch(Hash),
 }
 
 /// The first chunk of a file that is bad.

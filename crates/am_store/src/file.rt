@@ -1,10 +1,13 @@
 //! The changes of a file.
-ghost use Rattle.std.specs.Prelude.{◌≡◌, ℕ, Bool, List, IfOk, IfErr, [], vec_items};
-ghost use Rattle.am_store.specs.Files.{HasFault, FirstBad};
-ghost use Rattle.am_store.specs.Reading.{HasRead, MatchBad};
+ghost use Rattle.std.specs.Prelude.{◌≡◌, ℕ, Bool, List, All, IfOk, IfErr, vec_items};
+ghost use Rattle.am_types.specs.Deliver.{MayCome};
+ghost use Rattle.am_delivery.specs.Waiting.{members_of};
+ghost use Rattle.am_rebuild.specs.Documents.{changes_of, AreOwn};
+ghost use Rattle.am_store.specs.Files.{HasFault, IsFile, FirstBad};
+ghost use Rattle.am_store.specs.Reading.{MatchBad};
 ghost use Rattle.am_store.specs.Whole.{MatchLoad};
 
-use crate::chunk::{ChunkFault, first_change};
+use crate::chunk::{ChunkFault, read_chunk};
 use crate::fault::{LoadError, ReadFault};
 use am_types::{Change, Hash};
 use std::alloc::Global;
@@ -19,22 +22,26 @@ fn refused(chunk: u64, fault: ChunkFault) -> ReadFault
     }
 }
 
-/// The changes of a file, each beside its hash.
-pub fn changes_in(alloc: Global, bytes: &[u8]) -> Result<Vec<(Hash, Change)>, ReadFault>
-    ensures ok { IfOk result (λ pairs. HasRead bytes.now [] (vec_items pairs)) }
-    ensures load { (only : Bool) → IfErr result (λ fault. MatchLoad fault (λ e. FirstBad only bytes.now e.chunk e.fault)) }
+/// The changes of a file, each behind its hash. All chunks share one list.
+pub fn changes_in(
+    alloc: Global,
+    bytes: &[u8],
+    only_changes: bool,
+) -> Result<Vec<(Hash, Change)>, ReadFault>
+    ensures ok { IfOk result (λ pairs. IsFile only_changes bytes.now (changes_of (vec_items pairs))) }
+    ensures own_hashes { IfOk result (λ pairs. AreOwn (vec_items pairs)) }
+    ensures may_come { IfOk result (λ pairs. All MayCome (members_of (vec_items pairs))) }
+    ensures load { IfErr result (λ fault. MatchLoad fault (λ e. FirstBad only_changes bytes.now e.chunk e.fault)) }
 {
     let mut pairs = Vec::new(alloc);
+    let mut number = 1u64;
     let mut rest = bytes;
     'chunks: while !rest.is_empty() {
-        let first = match first_change(alloc, rest) {
-            Ok(first) => first,
-            Err(fault) => return Err(refused(pairs.len() as u64 + 1, fault)),
-        };
-        if pairs.push((first.hash, first.change)).is_err() {
-            return Err(ReadFault::NoMemory);
+        match read_chunk(alloc, rest, only_changes, &mut pairs) {
+            Ok(behind) => rest = behind,
+            Err(fault) => return Err(refused(number, fault)),
         }
-        rest = first.rest;
+        number += 1;
     }
     Ok(pairs)
 }

@@ -2,8 +2,8 @@
 ghost use Rattle.std.specs.Prelude.{◌≡◌, All, IfOk, vec_items};
 ghost use Rattle.am_types.specs.Fine.{Fine};
 ghost use Rattle.am_types.specs.Deliver.{MayCome};
+ghost use Rattle.am_change.specs.Hashes.{with_hashes};
 ghost use Rattle.am_delivery.specs.Waiting.{members_of};
-ghost use Rattle.am_store.specs.Kept.{with_hashes};
 
 use am_change::hash_of;
 use am_types::{Change, Hash, Twin, hash_known};

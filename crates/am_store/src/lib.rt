@@ -9,8 +9,6 @@ mod copies;
 mod document_tests;
 mod fault;
 mod file;
-#[cfg(test)]
-mod generated_tests;
 mod growing;
 mod hashing;
 mod history;
@@ -18,6 +16,8 @@ mod history;
 mod history_tests;
 mod laws;
 mod lists;
+#[cfg(test)]
+mod loading_tests;
 mod places;
 mod report;
 mod saving;
@@ -32,6 +32,6 @@ pub use am_graph::ClockFault;
 pub use am_types::{Rejected, Why};
 pub use fault::{LoadError, LoadFault, ReadFault};
 pub use history::HistoryLine;
-pub use laws::one_reading;
+pub use laws::{documents_are_read_back, documents_tell_sets, one_reading};
 pub use report::{Counts, Report};
 pub use store::Store;

@@ -13,7 +13,7 @@ ghost use Rattle.am_delivery.specs.Waiting.{members_of};
 ghost use Rattle.am_store.specs.Kept.{Kept, IsKept, counts_of, Takes, Delivered};
 ghost use Rattle.am_store.specs.Files.{IsFile, FirstBad};
 ghost use Rattle.am_store.specs.History.{history};
-ghost use Rattle.am_store.specs.Saved.{document, saved_all};
+ghost use Rattle.am_store.specs.Saved.{document, saved_all, chunk_in};
 ghost use Rattle.am_store.specs.Whole.{MatchLoad};
 
 use crate::copies::{list_copied, map_copied};
@@ -25,9 +25,11 @@ use crate::history::{HistoryLine, lines_with};
 use crate::lists::{changes_among, changes_with};
 use crate::report::{Counts, Report};
 use crate::saving::{document_of, push_chunks};
+use am_change::chunk_of;
 use am_delivery::{Pending, deliver, joins_no_more, keeps_what_came};
 use am_fits::OpIndex;
 use am_graph::{ClockFault, Graph};
+use am_laws::valid_sets_keep_rules;
 use am_types::{Bytes, Change, Hash, List, Twin};
 use std::alloc::{AllocError, Global};
 use std::collections::BTreeMap;
@@ -71,8 +73,8 @@ impl Store {
         })
     }
 
-    /// Delivers the changes of a file, as one list. All chunks are judged before any change is delivered. Document chunks
-    /// can't be read yet, and are refused whatever `only_changes` says. After a fault the store is as before.
+    /// Delivers the changes of a file, as one list. All chunks are judged before any change is delivered. With `only_changes`
+    /// document chunks are refused. After a fault the store is as before.
     pub fn read_file(
         &mut self,
         alloc: Global,
@@ -83,7 +85,7 @@ impl Store {
         ensures load { IfErr result (λ fault. MatchLoad fault (λ e. FirstBad only_changes bytes.now e.chunk e.fault)) }
         ensures err { OnErr result (self.new ≡ self.old) }
     {
-        let pairs = changes_in(alloc, bytes)?;
+        let pairs = changes_in(alloc, bytes, only_changes)?;
         let report = self.take(alloc, pairs)?;
         Ok(report)
     }
@@ -223,6 +225,17 @@ impl Store {
         let mut file = document_of(alloc, &self.graph, self.closed.as_slice())?;
         push_chunks(alloc, &mut file, &self.waiting)?;
         Ok(file)
+    }
+
+    /// The chunk of the change with this hash, or None where the closed set doesn't hold it.
+    pub fn change(&self, alloc: Global, hash: &Hash) -> Result<Option<Bytes>, AllocError>
+        ensures { IfOk result (λ found. found ≡ chunk_in self.now.closed hash.now) }
+    {
+        valid_sets_keep_rules();
+        match self.graph.place(hash) {
+            Some(place) => Ok(Some(chunk_of(alloc, &self.closed[place].1)?)),
+            None => Ok(None),
+        }
     }
 
     /// The changes with these hashes and their ancestors, in the order in which they joined.

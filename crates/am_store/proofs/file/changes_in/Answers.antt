@@ -1,23 +1,27 @@
-use Rattle.std.proofs.Common.{rules, vec_items, subst, ◌∙◌}
-use Rattle.std.proofs.lemmas.List.{nil_from_length}
+use Rattle.std.proofs.Common.{rules, ◌+◌, vec_items, subst, sym, refl, arith}
+use Rattle.am_store.specs.Files.{FirstBad}
 use Rattle.am_store.specs.Reading.{HasRead}
-use Rattle.am_store.proofs.ReadSteps.{match_weaker, nothing_read, read_more, first_bad, all_read}
+use Rattle.am_store.proofs.ReadSteps.{match_weaker, nothing_read, read_more, first_bad}
 use Rattle.am_store.proofs.file.changes_in.Goals as goal
 
 pub chunks-init : goal.chunks-init
-chunks-init c = subst (HasRead c.args.bytes.now c.args.bytes.now) (search rules) (nothing_read c.args.bytes.now)
+chunks-init c = record {
+  read = subst (λ ps. HasRead c.args.only_changes c.args.bytes.now c.args.bytes.now ps 1) (search rules) (nothing_read c.args.only_changes c.args.bytes.now);
+  few = omega arith;
+}
 
 pub chunks-preserved : goal.chunks-preserved
 chunks-preserved c =
-    let first = c.in-Ok.first in
-    subst (HasRead c.args.bytes.now first.rest.now) (search rules)
-    (read_more c.args.bytes.now c.chunks.rest.now first.rest.now (vec_items c.chunks.pairs) first.hash first.change c.chunks.invariant c.in-Ok.ensures.chunk c.in-Ok.ensures.is_chunk c.in-Ok.ensures.fine c.in-Ok.ensures.own_hash c.in-Ok.ensures.is_hash)
+    let at = c.chunks in
+    let shorter = c.in-Ok.ensures.shorter in
+    let few = at.invariant.few in
+    record {
+      read = read_more c.args.only_changes c.args.bytes.now at.rest.now c.in-Ok.behind.now (vec_items at.pairs) (vec_items c.read_chunk.new.pairs) at.number (at.number + 1) at.invariant.read c.in-Ok.ensures.ok refl;
+      few = omega arith;
+    }
 
 pub returns-in-Err-clause-load : goal.returns-in-Err-clause-load
-returns-in-Err-clause-load c = λ only.
+returns-in-Err-clause-load c =
     match_weaker c.refused.result _ _
-    (λ e h. first_bad only c.args.bytes.now c.chunks.rest.now (vec_items c.chunks.pairs) e.chunk e.fault c.chunks.invariant (search rules) h.1 (h.0 ∙ (search rules)))
-    (c.refused.ensures only c.chunks.rest.now (c.in-Err.ensures.bad only))
-
-pub returns-clause-ok : goal.returns-clause-ok
-returns-clause-ok c = all_read c.args.bytes.now c.chunks.rest.now (vec_items c.chunks.pairs) (nil_from_length c.chunks.rest.now (search rules)) c.chunks.invariant
+    (λ e h. subst (λ k. FirstBad c.args.only_changes c.args.bytes.now k e.fault) (sym h.0) (first_bad c.args.only_changes c.args.bytes.now c.chunks.rest.now (vec_items c.chunks.pairs) c.chunks.number e.fault c.chunks.invariant.read (search rules) h.1))
+    (c.refused.ensures c.args.only_changes c.chunks.rest.now c.in-Err.ensures.bad)

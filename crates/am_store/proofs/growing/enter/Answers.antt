@@ -1,4 +1,4 @@
-use Rattle.std.proofs.Common.{rules, ◌≡◌, ◌∷◌, [], sym, ap, ◌∙◌}
+use Rattle.std.proofs.Common.{rules, ◌∷◌, [], sym, ap, ◌∙◌}
 use Rattle.am_types.specs.Members.{Member, changes}
 use Rattle.am_fits.specs.Indexes.{Indexed}
 use Rattle.am_store.proofs.Grows.{may_admit, not_held, grown}

@@ -2,7 +2,7 @@ use Rattle.std.proofs.Common.{rules, ◌≡◌, ◌+◌, ◌∷◌, [], ◌++◌
 use Rattle.am_types.specs.Deliver.{MayCome}
 use Rattle.am_delivery.specs.Waiting.{members_of}
 use Rattle.am_change.specs.Contents.{hash}
-use Rattle.am_store.specs.Kept.{with_hashes}
+use Rattle.am_change.specs.Hashes.{with_hashes}
 use Rattle.am_store.proofs.Hashes.{more_hashed, more_may_come}
 use Rattle.am_store.proofs.hashing.hashed.Goals as goal
 

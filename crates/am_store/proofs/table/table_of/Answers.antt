@@ -1,4 +1,4 @@
-use Rattle.std.proofs.Common.{List, map, sym, ap, ◌∙◌, ◌≡◌}
+use Rattle.std.proofs.Common.{List, map, ap, ◌∙◌, ◌≡◌}
 use Rattle.am_types.specs.declared.Hash.{Hash}
 use Rattle.am_types.specs.declared.Change.{Change}
 use Rattle.am_types.specs.Operations.{all_operations}
