@@ -3,7 +3,7 @@
 --     one_name words     the name of a file, of at most 1,024 bytes, that is the one word
 --     hash_of word       the hash that 64 hexadecimal digits of either case spell
 --     is_number word     0, or digits without a leading zero
---     two_names, name_and_hashes     the words are these, in this order
+--     two_names, hash_and_name, name_and_hashes     the words are these, in this order
 -- A word that is out of form is told before one that spells no hash.
 use Rattle.std.specs.Prelude.{ℕ, List, [], ◌∷◌, length, Bool, ◌&&◌, ◌||◌, not, nat_le, nat_lt, eqb, bytes_eq, codes, slice_index, Option, None, Some, Result, Ok, Err, if◌then◌else◌}
 use Rattle.std.specs.List.{list_all}
@@ -91,6 +91,11 @@ with_hash make (Some hash) others = made (make hash) others
 abbrev pub all_hashes : List Text → Read (List Hash)
 all_hashes [] = Ok []
 all_hashes (word ∷ more) = with_hash (λ hash others. hash ∷ others) (hash_of word) (all_hashes more)
+
+-- the name is judged first
+abbrev pub hash_and_name : List Text → Read (Hash × Text)
+hash_and_name [] = Err Syntax
+hash_and_name (word ∷ more) = before (one_name more) (λ name. with_hash (λ hash name. (hash, name)) (hash_of word) (Ok name))
 
 abbrev pub name_and_hashes : List Text → Read (Text × List Hash)
 name_and_hashes [] = Err Syntax

@@ -24,6 +24,8 @@ pub enum Command {
     Show(List<Hash>),
     /// Prints all visible entries at these heads, or at those of the closed set where none is named.
     Conflicts(List<Hash>),
+    /// Keeps the chunk of the change of the closed set with this hash in the file of this name.
+    Export(Hash, Text),
     /// Measures a document of this many generated changes, at most 100,000.
     Bench(u64),
 }

@@ -7,7 +7,7 @@ ghost use Rattle.am_script.specs.declared.fault.LineFault.TheVariants.{NoMemory}
 
 use crate::command::Command;
 use crate::fault::LineFault;
-use crate::words::{all_hashes, alone, are_words, is_same, one_name, one_number};
+use crate::words::{all_hashes, alone, are_words, hash_and_name, is_same, one_name, one_number};
 use std::alloc::{AllocError, Global};
 
 // The longest line, in bytes.
@@ -58,6 +58,9 @@ fn by_words(
     }
     if is_same(first, "conflicts") {
         return Ok(all_hashes(alloc, more)?.map(Command::Conflicts));
+    }
+    if is_same(first, "export") {
+        return Ok(hash_and_name(alloc, more)?.map(|(hash, name)| Command::Export(hash, name)));
     }
     if is_same(first, "bench") {
         return Ok(one_number(more).map(Command::Bench));

@@ -32,6 +32,14 @@ fn listed(alloc: Global, line: &[u8]) -> Option<Text> {
     }
 }
 
+// The file in which a line keeps a change.
+fn exported(alloc: Global, line: &[u8]) -> Option<Text> {
+    match command(alloc, line) {
+        Some(Command::Export(_hash, name)) => Some(name),
+        _ => None,
+    }
+}
+
 // The hashes at which a line shows the document.
 fn shown(alloc: Global, line: &[u8]) -> Option<List<Hash>> {
     match command(alloc, line) {
@@ -49,6 +57,8 @@ fn lines_are_commands(rt: HostRuntime) -> Result<(), Fail> {
     let show = format!(in alloc; "show {A_HASH} {A_HASH}")?;
     assert!(rt; matches!(shown(alloc, show.as_bytes()), Some(hashes) if hashes.len() == 2));
     assert!(rt; matches!(command(alloc, b"heads"), Some(Command::Heads)));
+    let export = format!(in alloc; "export {A_HASH} A1")?;
+    assert!(rt; matches!(exported(alloc, export.as_bytes()), Some(name) if name.as_str() == "A1"));
     assert!(rt; matches!(command(alloc, b"history"), Some(Command::History)));
     assert!(rt; matches!(command(alloc, b"bench 0"), Some(Command::Bench(0))));
     assert!(rt;
@@ -68,6 +78,27 @@ fn lines_are_refused(rt: HostRuntime) -> Result<(), Fail> {
     assert!(rt; matches!(read_line(alloc, &long[1..]), Err(LineFault::Syntax)));
     assert!(rt; matches!(read_line(alloc, b"show x"), Err(LineFault::BadHash)));
     assert!(rt; matches!(read_line(alloc, b"conflicts x"), Err(LineFault::BadHash)));
+    assert!(rt; matches!(read_line(alloc, b"export x A1"), Err(LineFault::BadHash)));
+    assert!(rt; matches!(read_line(alloc, b"export x"), Err(LineFault::Syntax)));
+    let export = format!(in alloc; "export x {A_HASH}")?;
+    assert!(rt; matches!(read_line(alloc, export.as_bytes()), Err(LineFault::BadHash)));
+    let mut long_name = export;
+    for _ in 0..15 {
+        long_name.push_str(A_HASH)?;
+    }
+    assert!(rt;
+        matches!(
+            read_line(alloc, long_name.as_bytes()),
+            Err(LineFault::BadHash)
+        )
+    );
+    long_name.push('x')?;
+    assert!(rt;
+        matches!(
+            read_line(alloc, long_name.as_bytes()),
+            Err(LineFault::Syntax)
+        )
+    );
     assert!(rt; matches!(read_line(alloc, b"shows x"), Err(LineFault::Syntax)));
     assert!(rt; matches!(read_line(alloc, b"show  x"), Err(LineFault::Syntax)));
     assert!(rt; matches!(read_line(alloc, b"heads "), Err(LineFault::Syntax)));

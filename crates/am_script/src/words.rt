@@ -4,7 +4,7 @@ ghost use Rattle.std.specs.List.{list_all, AllPass};
 ghost use Rattle.std.specs.Char.{is_ascii_digit};
 ghost use Rattle.std.specs.Str.Parse.{digits_value};
 ghost use Rattle.hex.specs.Hex.{is_hex_digit};
-ghost use Rattle.am_script.specs.Words.{space, is_word, alone, name_of, one_name, two_names, is_number, number_of, one_number, hash_of, all_hashes, name_and_hashes};
+ghost use Rattle.am_script.specs.Words.{space, is_word, alone, name_of, one_name, two_names, is_number, number_of, one_number, hash_of, all_hashes, hash_and_name, name_and_hashes};
 
 use crate::fault::LineFault;
 use am_types::{Hash, List, Text};
@@ -177,6 +177,27 @@ pub fn all_hashes(
         hashes.push(hash)?;
     }
     Ok(Ok(hashes))
+}
+
+/// A hash and a name, where the words are these. A name that is too long is told before a word that is no hash.
+#[tactic(auto, using(crate::proofs::Texts::first_is_word))]
+pub fn hash_and_name(
+    alloc: Global,
+    words: &[&[u8]],
+) -> Result<Result<(Hash, Text), LineFault>, AllocError>
+    requires { list_all is_word (map (λ word. word.now) words.now) ≡ true }
+    ensures { IfOk result (λ both. both ≡ hash_and_name (map (λ word. word.now) words.now)) }
+{
+    let Some((word, more)) = words.split_first() else {
+        return Ok(Err(LineFault::Syntax));
+    };
+    match one_name(alloc, more)? {
+        Ok(name) => match hash_of(word) {
+            Some(hash) => Ok(Ok((hash, name))),
+            None => Ok(Err(LineFault::BadHash)),
+        },
+        Err(fault) => Ok(Err(fault)),
+    }
 }
 
 /// Two names, where the words are these.
