@@ -1,8 +1,8 @@
 -- Where files are told, the machine gives one reply to a command, and one list of replies to a script, however the two
 -- sets are listed.
 use Rattle.std.proofs.Common.{◌≡◌, ℕ, ◌-◌, List, [], ◌∷◌, ◌++◌, length, Bool, true, false, Option, Some, None, refl, sym, ap, subst, ◌∙◌, inl, inr, ◌⊎◌, arith}
-use Rattle.std.specs.Prelude.{All, IsPermutation, find, map, not}
-use Rattle.std.proofs.lemmas.List.Sorted.{IsPermutation-refl, IsPermutation-trans, IsPermutation-map, length_permutation, list_any-IsPermutation}
+use Rattle.std.specs.Prelude.{All, Contains, IsPermutation, map, option_map}
+use Rattle.std.proofs.lemmas.List.Sorted.{IsPermutation-refl, IsPermutation-sym, IsPermutation-trans, IsPermutation-map, Contains-permutation, length_permutation}
 use Rattle.std.specs.FinMap.{insert}
 use Rattle.am_outside.specs.Files.{Files, Stands}
 use Rattle.am_frame.specs.Frames.{Chunk, IsFile}
@@ -11,16 +11,22 @@ use Rattle.am_frame.specs.declared.FrameFault.{FrameFault}
 use Rattle.am_types.specs.declared.Change.{Change}
 use Rattle.am_types.specs.declared.Hash.{Hash}
 use Rattle.am_types.specs.Order.{hash_cmp, sorted_by, same as same_by}
-use Rattle.am_types.specs.Members.{Member, hashes, heads, holds}
-use Rattle.am_types.specs.ValidSets.{Valid}
+use Rattle.am_types.specs.Members.{Member, hashes, heads, member}
 use Rattle.am_types.specs.Deliver.{AreStored, MayCome}
-use Rattle.am_laws.specs.Laws.{ListingIsFree}
+use Rattle.am_types.proofs.Orders.{same_hash-true}
+use Rattle.am_laws.specs.Laws.{ListingIsFree, ValidSetsKeepRules}
 use Rattle.am_delivery.specs.Laws as delivery
-use Rattle.am_store.specs.Kept.{Kept, with_hashes}
+use Rattle.am_delivery.proofs.Deliveries.{distinct_from_pairs}
+use Rattle.am_delivery.proofs.Members.{unique}
+use Rattle.am_delivery.proofs.Reasons.{find_same}
+use Rattle.am_change.specs.Contents.{chunk}
+use Rattle.am_change.specs.Hashes.{with_hashes}
+use Rattle.am_store.specs.Kept.{Kept}
 use Rattle.am_store.specs.Files as store
 use Rattle.am_store.specs.History.{line_of}
-use Rattle.am_store.specs.Saved.{document, chunks, saved_all}
+use Rattle.am_store.specs.Saved.{document, chunks, chunk_in, saved_all}
 use Rattle.am_store.specs.declared.LoadFault.{LoadFault}
+use Rattle.am_cli.proofs.Alike.{read_alike, document_alike}
 use Rattle.am_cli.proofs.Coming.{changes_may_come}
 use Rattle.am_cli.specs.declared.request.Request.{Request}
 use Rattle.am_cli.specs.declared.request.Request.TheVariants.{Do, LongLine, Syntax, BadHash}
@@ -29,12 +35,10 @@ use Rattle.am_cli.proofs.SameHeld.{MayHold, same_held, between, same_with}
 use Rattle.am_cli.specs.Replies.{hash_list, kept_reply}
 use Rattle.am_cli.specs.Listing.{Lists, listing, bad_chunk}
 use Rattle.am_cli.specs.Apply.{Applies, Delivers, outcome, report_text, bad_file}
-use Rattle.am_cli.specs.Reading.{reading_by, reading_at, reading}
 use Rattle.am_cli.specs.History.{history_text}
-use Rattle.am_json.specs.declared.Form.{Form}
 use Rattle.am_json.specs.declared.Form.TheVariants as form
-use Rattle.am_cli.specs.Machine.{State, state, first_state, SameState, with_file, Keeps, Answers, Runs, left_after}
-use Rattle.am_script.specs.declared.Command.TheVariants.{Frames, Apply, Load, Save, SaveAll, Heads, Waiting, History, Show, Conflicts, Bench}
+use Rattle.am_cli.specs.Machine.{State, state, first_state, SameState, with_file, Keeps, Exports, Answers, Runs, left_after}
+use Rattle.am_script.specs.declared.Command.TheVariants.{Frames, Apply, Load, Save, SaveAll, Heads, Waiting, History, Show, Conflicts, Export, Bench}
 
 -- what the crates below promise
 pub record Laws : Type 0 where
@@ -48,6 +52,7 @@ pub record Laws : Type 0 where
   pub stored : delivery.StaysStored
   pub waiting : delivery.WaitingSortsAlike
   pub reads : ListingIsFree
+  pub rules : ValidSetsKeepRules
   pub sorts : (xs ys : List Hash) → IsPermutation xs ys → sorted_by hash_cmp ys ≡ sorted_by hash_cmp xs
 
 -- ---- states that list the same sets
@@ -134,7 +139,7 @@ one_applied law only c s t may p k (Some bytes) (Some others) r q end last e f g
 
     both : (cs : List Change) → store.IsFile only bytes cs → Delivers s.kept cs r end.kept → end ≡ with_kept s end.kept → Delivers t.kept cs q last.kept → last ≡ with_kept t last.kept → AgreeHeld r q end last
     both cs is x e y f =
-        let come = changes_may_come only bytes cs is in
+        let come = changes_may_come law.rules only bytes cs is in
         let here = one_report law c.kept s.kept cs r end.kept may come p.sets x in
         let there = one_report law c.kept t.kept cs q last.kept may come k.sets y in
         let sets : Kept = record { closed = (outcome c.kept cs).closed; waiting = (outcome c.kept cs).waiting } in
@@ -161,16 +166,6 @@ one_applied law only c s t may p k (Some bytes) (Some others) r q end last e f g
           right = subst (SameHeld c) (sym y.4) k;
         }
 
--- what is read doesn't depend on how the closed set is listed
-one_reading_at : Laws → (form : Form) (hs : List Hash) (C D : List Member) → Valid C → IsPermutation C D → reading_at form hs D ≡ reading_at form hs C
-one_reading_at law form hs C D valid same =
-    let held : (h : Hash) → holds D h ≡ holds C h = λ h. sym (list_any-IsPermutation (same_by hash_cmp h) (hashes C) (hashes D) (IsPermutation-map (λ m. m.hash) C D same)) in
-    let seen = ((law.reads C D valid same).at hs).visible in λ i. reading_by (find (λ h. not (held h i)) hs) form (seen i)
-
-one_read : Laws → (form : Form) (named : List Hash) (C D : List Member) → Valid C → IsPermutation C D → reading form named D ≡ reading form named C
-one_read law form [] C D valid same = ap (λ hs. reading_at form hs D) (law.reads C D valid same).heads ∙ one_reading_at law form (heads C) C D valid same
-one_read law form (h ∷ hs) C D valid same = one_reading_at law form (h ∷ hs) C D valid same
-
 one_found : (c s t : State) (name : List ℕ) (file other : Option (List ℕ)) → Sound c → SameState c s → SameState c t → Stands s.files name file → Stands t.files name other → file ≡ other
 one_found c s t name file other sound p k f g =
     let a = subst (λ x. Stands x name file) (sym p.files ∙ sound.files) f in
@@ -179,7 +174,7 @@ one_found c s t name file other sound p k f g =
 
 -- what is saved doesn't depend on how the sets are listed
 one_document : Laws → (c s : Held) → MayHold c → SameHeld c s → document s.kept.closed ≡ document c.kept.closed
-one_document law c s may p = rw ((law.reads c.kept.closed s.kept.closed may.valid p.sets.closed).table)
+one_document law c s may p = document_alike law.reads c.kept.closed s.kept.closed may.valid p.sets.closed
 
 one_save : Laws → (c s : Held) → MayHold c → SameHeld c s → saved_all s.kept ≡ saved_all c.kept
 one_save law c s may p =
@@ -195,6 +190,25 @@ one_kept c s t name bytes here there r q end other sound p k a b f g = record {
   left = subst (SameState (state c.held (with_file name bytes c.files))) (sym f.1) (record { held = p.held; files = λ i. with_file name (sym a i) (p.files i) });
   right = subst (SameState (state c.held (with_file name bytes c.files))) (sym g.1) (record { held = k.held; files = λ i. with_file name (sym b i) (k.files i) });
 }
+
+-- the change with a hash is the same in each listing
+one_chunk : Laws → (c s : Held) → MayHold c → SameHeld c s → (h : Hash) → chunk_in s.kept.closed h ≡ chunk_in c.kept.closed h
+one_chunk law c s may p h =
+    let C = c.kept.closed in
+    let D = s.kept.closed in
+    let one : (x y : Member) → Contains C x → Contains C y → same_by hash_cmp h x.hash ≡ true → same_by hash_cmp h y.hash ≡ true → x ≡ y =
+    λ x y cx cy hx hy. unique C (distinct_from_pairs C (law.rules C may.valid).hashes) x y cx cy (sym (same_hash-true h x.hash hx) ∙ same_hash-true h y.hash hy) in
+    let same : member C h ≡ member D h =
+    find_same (λ (m : Member). same_by hash_cmp h m.hash) C D one (λ x. Contains-permutation C D x p.sets.closed) (λ x. Contains-permutation D C x (IsPermutation-sym C D p.sets.closed)) in
+    ap (option_map (λ (m : Member). chunk m.change)) (sym same)
+
+one_export : (c s t : State) (hash : Hash) (name : List ℕ) (found here there : Option (List ℕ)) (r q : List ℕ) (end other : State) → Sound c → SameState c s → SameState c t → here ≡ found → there ≡ found → Exports here s hash name r end → Exports there t hash name q other → Agree r q end other
+one_export c s t hash name None here there r q end other sound p k a b f g =
+    let x : Exports None s hash name r end = subst (λ o. Exports o s hash name r end) a f in
+    let y : Exports None t hash name q other = subst (λ o. Exports o t hash name q other) b g in
+    stay c s t r q end other sound p k (x.0 ∙ sym y.0) x.1 y.1
+one_export c s t hash name (Some bytes) here there r q end other sound p k a b f g =
+    one_kept c s t name bytes bytes bytes r q end other sound p k refl refl (subst (λ o. Exports o s hash name r end) a f) (subst (λ o. Exports o t hash name q other) b g)
 
 one_answer : Laws → (c s t : State) (asked : Request) (r q : List ℕ) (end other : State) → Sound c → SameState c s → SameState c t → Answers s asked r end → Answers t asked q other → Agree r q end other
 one_answer law c s t (Do (Frames name)) r q end other sound p k f g = stay c s t r q end other sound p k (one_listing law f.0 g.0 r q (one_found c s t name f.0 g.0 sound p k f.1 g.1) f.2 g.2) f.3 g.3
@@ -233,13 +247,15 @@ one_answer law c s t (Do History) r q end other sound p k f g =
     let there = (law.reads c.held.kept.closed t.held.kept.closed sound.held.valid k.held.sets.closed).order in
     stay c s t r q end other sound p k (f.0 ∙ ap (λ members. history_text (map line_of members)) (here ∙ sym there) ∙ sym g.0) f.1 g.1
 one_answer law c s t (Do (Show named)) r q end other sound p k f g =
-    let here = one_read law form.Winners named c.held.kept.closed s.held.kept.closed sound.held.valid p.held.sets.closed in
-    let there = one_read law form.Winners named c.held.kept.closed t.held.kept.closed sound.held.valid k.held.sets.closed in
+    let here = read_alike law.reads form.Winners named c.held.kept.closed s.held.kept.closed sound.held.valid p.held.sets.closed in
+    let there = read_alike law.reads form.Winners named c.held.kept.closed t.held.kept.closed sound.held.valid k.held.sets.closed in
     stay c s t r q end other sound p k (f.0 ∙ here ∙ sym there ∙ sym g.0) f.1 g.1
 one_answer law c s t (Do (Conflicts named)) r q end other sound p k f g =
-    let here = one_read law form.All named c.held.kept.closed s.held.kept.closed sound.held.valid p.held.sets.closed in
-    let there = one_read law form.All named c.held.kept.closed t.held.kept.closed sound.held.valid k.held.sets.closed in
+    let here = read_alike law.reads form.All named c.held.kept.closed s.held.kept.closed sound.held.valid p.held.sets.closed in
+    let there = read_alike law.reads form.All named c.held.kept.closed t.held.kept.closed sound.held.valid k.held.sets.closed in
     stay c s t r q end other sound p k (f.0 ∙ here ∙ sym there ∙ sym g.0) f.1 g.1
+one_answer law c s t (Do (Export hash name)) r q end other sound p k f g =
+    one_export c s t hash name (chunk_in c.held.kept.closed hash) _ _ r q end other sound p k (one_chunk law c.held s.held sound.held p.held hash) (one_chunk law c.held t.held sound.held k.held hash) f g
 one_answer law c s t (Do (Bench count)) r q end other sound p k f g = stay c s t r q end other sound p k (f.0 ∙ sym g.0) f.1 g.1
 one_answer law c s t LongLine r q end other sound p k f g = stay c s t r q end other sound p k (f.0 ∙ sym g.0) f.1 g.1
 one_answer law c s t Syntax r q end other sound p k f g = stay c s t r q end other sound p k (f.0 ∙ sym g.0) f.1 g.1

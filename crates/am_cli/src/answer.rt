@@ -18,7 +18,7 @@ use crate::listing::list_frames;
 use crate::reading::read;
 use crate::replies::refusal;
 use crate::request::RequestRef;
-use crate::saving::{saved, saved_all};
+use crate::saving::{exported, saved, saved_all};
 use crate::session::Session;
 use am_json::Form;
 use am_outside::{FetchFault, Folder};
@@ -123,6 +123,9 @@ pub fn answer<F: Folder>(
         }
         RequestRef::Do(Command::Conflicts(named)) => {
             Ok(read(alloc, Form::All, named.as_slice(), session.store())?)
+        }
+        RequestRef::Do(Command::Export(hash, name)) => {
+            exported(alloc, hash, name, session, files)
         }
         RequestRef::Do(Command::Bench(count)) => Ok(bench(alloc, *count)?),
     }

@@ -1,13 +1,14 @@
 //! Measuring a document of generated changes.
-ghost use Rattle.std.specs.Prelude.{◌≡◌, ◌≤◌, length, IfOk};
-ghost use Rattle.am_types.specs.Members.{changes};
+ghost use Rattle.std.specs.Prelude.{◌≡◌, ◌≤◌, length, IfOk, IsPermutation};
+ghost use Rattle.am_store.specs.Saved.{document};
 ghost use Rattle.am_cli.specs.Bench.{generated, measures_line, measures, measured_as_shown, bench_text};
 
 use crate::reading::read;
 use crate::replies::{push_number, refusal, refuses};
 use am_gen::made;
 use am_json::Form;
-use am_store::Store;
+use am_laws::listing_is_free;
+use am_store::{ReadFault, Store, documents_are_read_back};
 use am_types::Bytes;
 use std::alloc::{AllocError, Global};
 
@@ -44,38 +45,61 @@ fn measures_line(
     Ok(line)
 }
 
-// How much a store holds, how long its document is and the text that show prints, which is `shown`.
-fn measures(alloc: Global, store: &Store, shown: &[u8]) -> Result<Bytes, AllocError>
+// How much a store holds, the length of its document, and that of the text that show prints, which is `shown`.
+fn measures(alloc: Global, store: &Store, file: &[u8], shown: &[u8]) -> Result<Bytes, AllocError>
+    requires { file.now ≡ document store.now.closed }
     ensures { IfOk result (λ reply. reply ≡ measures store.now.closed shown.now) }
 {
     let counts = store.counts();
-    let bytes = store.save(alloc)?.len() as u64;
+    let bytes = file.len() as u64;
     let json = shown.len().saturating_sub(1) as u64;
     measures_line(alloc, counts.changes, counts.operations, bytes, json)
 }
 
 // The same, with what show prints. A text that show refuses is refused.
-fn measured(alloc: Global, store: &Store) -> Result<Bytes, AllocError>
+fn measured(alloc: Global, store: &Store, file: &[u8]) -> Result<Bytes, AllocError>
+    requires { file.now ≡ document store.now.closed }
     ensures { IfOk result (λ reply. reply ≡ measured_as_shown store.now.closed) }
 {
     let shown = read(alloc, Form::Winners, &[], store)?;
     if refuses(shown.as_slice()) {
         return Ok(shown);
     }
-    measures(alloc, store, shown.as_slice())
+    measures(alloc, store, file, shown.as_slice())
 }
 
-// The same of generated changes.
+// Another store, that the file of this one's document was loaded into. It has the same changes.
+fn loaded(alloc: Global, store: &Store, file: &[u8]) -> Result<Store, AllocError>
+    requires { file.now ≡ document store.now.closed }
+    ensures { IfOk result (λ second. IsPermutation store.now.closed second.closed) }
+{
+    documents_are_read_back();
+    let _graph = store.graph();
+    let _length = file.len();
+    let mut second = Store::new(alloc)?;
+    match second.read_file(alloc, file, false) {
+        Ok(_) => Ok(second),
+        Err(ReadFault::NoMemory) => Err(AllocError),
+        Err(ReadFault::Load(_)) => unreachable!(),
+    }
+}
+
+// The measures of a store that the document of generated changes was loaded into.
 fn measured_changes(alloc: Global, count: u64) -> Result<Bytes, AllocError>
     requires { count ≤ 100000 }
     ensures { IfOk result (λ reply. reply ≡ measured_as_shown (generated count)) }
 {
+    listing_is_free();
     let store = generated(alloc, count)?;
-    let reply = measured(alloc, &store)?;
+    let _graph = store.graph();
+    let file = store.save(alloc)?;
+    let second = loaded(alloc, &store, file.as_slice())?;
+    let reply = measured(alloc, &second, file.as_slice())?;
     Ok(reply)
 }
 
-/// The reply to bench: the measures of a store of so many generated changes. No line asks for more than 100,000.
+/// The reply to bench: so many generated changes are delivered to a store, its document is loaded into another one, and that
+/// is measured. No line asks for more than 100,000.
 pub fn bench(alloc: Global, count: u64) -> Result<Bytes, AllocError>
     ensures { IfOk result (λ reply. reply ≡ bench_text count) }
 {

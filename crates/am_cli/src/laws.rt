@@ -20,4 +20,5 @@ pub fn one_run()
     am_delivery::waiting_sorts_alike();
     am_laws::listing_is_free();
     am_laws::sorting_is_free();
+    am_laws::valid_sets_keep_rules();
 }

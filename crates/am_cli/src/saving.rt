@@ -3,17 +3,17 @@ ghost use Rattle.std.specs.Prelude.{◌≡◌, ◌≤◌, length, IfOk, IsErrOf}
 ghost use Rattle.am_outside.specs.Counts.{Rose};
 ghost use Rattle.am_outside.specs.Files.{SameBut};
 ghost use Rattle.am_cli.specs.declared.request.Request.TheVariants.{Do};
-ghost use Rattle.am_script.specs.declared.Command.TheVariants.{Save, SaveAll};
+ghost use Rattle.am_script.specs.declared.Command.TheVariants.{Save, SaveAll, Export};
 ghost use Rattle.am_cli.specs.Replies.{kept_reply};
 ghost use Rattle.am_cli.specs.Machine.{with_file};
 ghost use Rattle.am_cli.specs.Answered.{Answered, seen};
 ghost use Rattle.am_cli.specs.FirstFault.{Ended, is_err_at, is_file_stop};
 
 use crate::halt::Stop;
-use crate::replies::kept_reply;
+use crate::replies::{kept_reply, unknown};
 use crate::session::Session;
 use am_outside::{Folder, WriteFault};
-use am_types::{Bytes, Text};
+use am_types::{Bytes, Hash, Text};
 use std::alloc::Global;
 
 // Keeps a file, and tells how long it is. The reply is made first, so that no file is kept where memory is wanting. A
@@ -67,4 +67,23 @@ pub fn saved_all<F: Folder>(
 {
     let file = session.store().save_all(alloc)?;
     keep(alloc, name.as_str(), file.as_slice(), files)
+}
+
+/// The reply to export, and the file that it keeps.
+#[tactic(auto, using(crate::proofs::FirstFault::no_call))]
+pub fn exported<F: Folder>(
+    alloc: Global,
+    hash: &Hash,
+    name: &Text,
+    session: &Session,
+    files: &mut F,
+) -> Result<Bytes, Stop>
+    ensures { Answered (Do (Export hash.now name.now)) session.now
+        (seen (F.files files.old) (F.misses files.old) (F.faults files.old) (F.calls files.old)) result session.now
+        (seen (F.files files.new) (F.misses files.new) (F.faults files.new) (F.calls files.new)) }
+{
+    match session.store().change(alloc, hash)? {
+        Some(chunk) => keep(alloc, name.as_str(), chunk.as_slice(), files),
+        None => Ok(unknown(alloc, hash)?),
+    }
 }

@@ -31,6 +31,10 @@ const WAITING: &str =
      c088d1fe97ecf9c964cfa6ce3201aa020200000008150334014202560257017002710273027f0161017f017f\
      13027f017f007f01";
 
+// The chunk of A1.
+const CHUNK: &str =
+    "856f4a83d99aa04d01200001aa0101000000061503340142025602570170027f0161017f017f13017f00";
+
 // A script, its replies, and the bytes that it leaves in the file `kept`.
 struct Case {
     script: &'static str,
@@ -38,7 +42,7 @@ struct Case {
     kept: &'static str,
 }
 
-const CASES: [Case; 8] = [
+const CASES: [Case; 9] = [
     Case {
         script: "save kept\n",
         replies: "ok 14\n",
@@ -78,6 +82,11 @@ const CASES: [Case; 8] = [
         script: "apply A2\nsaveall kept\napply A1\nshow\n",
         replies: "ok added 0 waiting 1 rejected 0\nok 96\nok added 2 waiting 0 rejected 0\n{\"a\":2}\n",
         kept: WAITING,
+    },
+    Case {
+        script: "apply A1\nexport D99AA04D2627B06462EA181E063A2E07E16255C088D1FE97ECF9C964CFA6CE32 kept\n",
+        replies: "ok added 1 waiting 0 rejected 0\nok 42\n",
+        kept: CHUNK,
     },
 ];
 
