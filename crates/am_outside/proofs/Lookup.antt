@@ -8,7 +8,7 @@ use Rattle.std.specs.FinMap.{get, insert, get-empty, get-insert}
 use Rattle.std.proofs.lemmas.Map.Text.{is_eq-slice_cmp}
 use Rattle.am_outside.specs.Files.{Files}
 use Rattle.am_outside.specs.Stored.{files_of}
-use Rattle.am_outside.specs.declared.memory_folder.File.{File}
+use Rattle.am_outside.specs.declared.stored_files.File.{File}
 
 pub get-put : (files : Files) (key bytes name : List ℕ) → get (insert files key bytes) name ≡ cond (bytes_eq name key) (Some bytes) (get files name)
 get-put files key bytes name =

@@ -1,22 +1,16 @@
 //! A folder in memory.
-ghost use Rattle.std.specs.Prelude.{◌≡◌, filter, not, bytes_eq, OnOk, OnErr, Some, string_bytes};
+ghost use Rattle.std.specs.Prelude.{◌≡◌, OnOk, OnErr, Some};
 ghost use Rattle.std.specs.Option.{option_map};
-ghost use Rattle.std.specs.FinMap.{empty, insert, get};
+ghost use Rattle.std.specs.FinMap.{empty, insert};
 ghost use Rattle.am_outside.specs.Calls.{fresh};
 ghost use Rattle.am_outside.specs.Files.{Stands};
 ghost use Rattle.am_outside.specs.Stored.{files_of};
 
 use crate::faults::{FetchFault, WriteFault};
 use crate::folder::Folder;
+use crate::stored_files::{File, find_file, put_first, remove_file};
 use std::alloc::{AllocError, Global};
 use std::collections::VecDeque;
-
-// A file of the folder.
-#[derive(Drop)]
-struct File {
-    name: String,
-    bytes: Vec<u8>,
-}
 
 /// Files by their names, fetched and kept by calls of which some fail. Both kinds of calls share one count. A keep that
 /// fails removes the file.
@@ -28,44 +22,6 @@ pub struct MemoryFolder {
     calls: u64,
     misses: u64,
     faults: u64,
-}
-
-// The file of this name that stands first.
-#[tactic(auto, using(crate::proofs::Lookup::nothing, crate::proofs::Lookup::found, crate::proofs::Lookup::passed))]
-fn find_file<'a>(files: &'a VecDeque<File>, name: &str) -> Option<&'a [u8]>
-    ensures { option_map (λ bytes. bytes.now) result ≡ get (files_of files.now.items) name.now }
-{
-    for file in files {
-        if name == file.name.as_str() {
-            return Some(&file.bytes);
-        }
-    }
-    None
-}
-
-// Puts a file in front, where it hides any other of its name.
-fn put_first(
-    alloc: Global,
-    files: &mut VecDeque<File>,
-    name: &str,
-    bytes: &[u8],
-) -> Result<(), AllocError>
-    ensures ok { OnOk result (files_of files.new.items ≡ insert (files_of files.old.items) name.now bytes.now) }
-    ensures err { OnErr result (files_of files.new.items ≡ files_of files.old.items) }
-{
-    let file = File {
-        name: String::from_str(alloc, name)?,
-        bytes: bytes.to_vec(alloc)?,
-    };
-    files.push_front(file)?;
-    Ok(())
-}
-
-// Drops each file of this name.
-fn remove_file(files: &mut VecDeque<File>, name: &str)
-    ensures { files.new.items ≡ filter (λ file. not (bytes_eq name.now (string_bytes file.name))) files.old.items }
-{
-    files.retain(|file| name != file.name.as_str());
 }
 
 impl MemoryFolder {

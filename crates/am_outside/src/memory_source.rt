@@ -1,22 +1,10 @@
 //! An input in memory.
-ghost use Rattle.std.specs.Prelude.{◌≡◌, ◌≤◌, ◌<◌, ℕ, drop, take, length, Some, vec_len};
+ghost use Rattle.std.specs.Prelude.{◌≡◌, ◌≤◌, drop, Some, vec_len};
 ghost use Rattle.am_outside.specs.Calls.{fresh};
 
+use crate::copying::copy_front;
 use crate::faults::Failed;
 use crate::source::Source;
-
-// Moves up to `most` bytes from the front of one slice to that of another, and says how many.
-fn copy_front(from: &[u8], to: &mut [u8], most: usize) -> usize
-    requires { 1 ≤ most }
-    ensures within { result ≤ length to.new }
-    ensures there { result ≤ length from.now }
-    ensures some { result ≡ 0 → 0 < length to.new → length from.now ≡ 0 }
-    ensures bytes { take result to.new ≡ take result from.now }
-{
-    let count = from.len().min(to.len()).min(most);
-    to[..count].copy_from_slice(&from[..count]);
-    count
-}
 
 /// Bytes that are given in pieces of bounded length, by calls of which some fail.
 #[derive(Drop)]

@@ -1,7 +1,7 @@
 //! What no clause says: that the calls succeed, and that the real versions pass on what they are given.
 use crate::{
     Failed, FetchFault, Folder, HostFolder, MemoryFolder, MemorySink, MemorySource, ReadSource,
-    Sink, Source, WriteFault, WriteSink,
+    Sink, Source, SureFolder, SureSink, SureSource, WriteFault, WriteSink,
 };
 use std::collections::VecDeque;
 use std::test::Fail;
@@ -42,6 +42,28 @@ fn memory_folder_keeps_files(rt: HostRuntime) -> Result<(), Fail> {
     assert!(rt; matches!(folder.fetch(alloc, "b"), Err(FetchFault::Absent)));
     assert_eq!(rt; folder.keep("a", b"three"), Err(WriteFault::Failed));
     assert_eq!(rt; folder.file("a"), None);
+    Ok(())
+}
+
+#[test]
+fn sure_versions_do_not_fail(rt: HostRuntime) -> Result<(), Fail> {
+    let alloc = rt.alloc();
+    let mut source = SureSource::new(b"hello".to_vec(alloc)?);
+    let mut buffer = [0u8; 4];
+    assert_eq!(rt; source.read(&mut buffer), Ok(4));
+    assert_eq!(rt; buffer, *b"hell");
+    assert_eq!(rt; source.read(&mut buffer), Ok(1));
+    assert_eq!(rt; source.read(&mut buffer), Ok(0));
+    let mut sink = SureSink::new(alloc);
+    assert_eq!(rt; sink.write(b"one"), Ok(3));
+    assert_eq!(rt; sink.write(b"two"), Ok(3));
+    assert_eq!(rt; sink.bytes(), b"onetwo".as_slice());
+    let mut folder = SureFolder::new(alloc);
+    folder.put_file("a", b"one")?;
+    assert_eq!(rt; folder.keep("a", b"two"), Ok(()));
+    assert_eq!(rt; folder.file("a"), Some(b"two".as_slice()));
+    assert_eq!(rt; folder.fetch(alloc, "a")?.as_slice(), b"two".as_slice());
+    assert!(rt; matches!(folder.fetch(alloc, "b"), Err(FetchFault::Absent)));
     Ok(())
 }
 

@@ -1,10 +1,10 @@
 use Rattle.std.proofs.Common.{◌≡◌, List, length, rules, [], ◌∷◌, sym, ap, ◌∙◌, refl}
 use Rattle.std.specs.FinMap.{get}
 use Rattle.std.specs.VecDeque.Iter.{deque_iter_rest}
-use Rattle.am_outside.specs.declared.memory_folder.File.{File}
+use Rattle.am_outside.specs.declared.stored_files.File.{File}
 use Rattle.am_outside.specs.Stored.{files_of}
 use Rattle.am_outside.proofs.Lookup.{nothing}
-use Rattle.am_outside.proofs.memory_folder.find_file.Goals as goal
+use Rattle.am_outside.proofs.stored_files.find_file.Goals as goal
 
 none_left : (files : List File) → length files ≡ 0 → files ≡ []
 none_left [] e = refl
