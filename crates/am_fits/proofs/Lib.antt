@@ -8,6 +8,10 @@ pub mod SeqLaws
 pub mod Sums
 pub mod Outcomes
 pub mod Fresh
+pub mod Places
+pub mod RunLaws
+pub mod TableLaws
+pub mod Covered
 pub mod Adding
 pub mod Cut
 pub mod Firsts

@@ -19,7 +19,10 @@ use Rattle.am_graph.specs.declared.reach.Reach.{Reach}
 use Rattle.am_graph.specs.Clocks.{IsClockOf}
 use Rattle.am_graph.specs.Graphs.{ForSet, having, is_held, missing, IsLeast}
 use Rattle.am_graph.proofs.ValidFacts.{valid_facts}
+use Rattle.am_types.specs.declared.OpId.{OpId}
+use Rattle.am_fits.specs.Facts.{Fact}
 use Rattle.am_fits.specs.Indexes.{Indexed, AreOf}
+use Rattle.am_fits.specs.Past.{Past}
 use Rattle.am_fits.specs.Sums.{totals_with, limit_of}
 use Rattle.am_fits.specs.Told.{IsGoodAt, IsFirstBad}
 use Rattle.am_fits.proofs.SeqLaws.{find_passes, gap_told, low_told, clash_is, gap_is, low_is}
@@ -94,3 +97,11 @@ nothing_missing g ix c C are held h e =
     let p = find_passes (λ h. not (is_held g h)) c.deps h e in
     let t : is_held g h ≡ true = held_of_set g C h are.graph ∙ All-contains (λ h. holds C h ≡ true) c.deps h (AllPass-from_list_all (holds C) c.deps held) p.0 in
     both_ways false refl (sym (ap not t) ∙ p.1)
+
+-- what is told of ancestors that have this clock, of operations with these facts
+module _ (p : Past) (clock : List (List ℕ × Reach)) (fs : List (OpId × Fact)) (c : Change) where
+  pub bad_of : (k : ℕ) → p.clock ≡ clock → p.facts ≡ fs → IsFirstBad p.clock p.facts c k → IsFirstBad clock fs c k
+  bad_of k e f h = subst (λ gs. IsFirstBad clock gs c k) f (subst (λ x. IsFirstBad x p.facts c k) e h)
+
+  pub good_of : p.clock ≡ clock → p.facts ≡ fs → ((k : ℕ) → k < length c.ops → IsGoodAt p.clock p.facts c k) → (k : ℕ) → k < length c.ops → IsGoodAt clock fs c k
+  good_of e f h = subst (λ gs. (k : ℕ) → k < length c.ops → IsGoodAt clock gs c k) f (subst (λ x. (k : ℕ) → k < length c.ops → IsGoodAt x p.facts c k) e h)

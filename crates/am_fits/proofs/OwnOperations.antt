@@ -1,8 +1,8 @@
 -- The operations of a change, by their places.
-use Rattle.std.proofs.Common.{ℕ, zero, suc, ◌≡◌, ◌+◌, ◌-◌, ◌<◌, ◌≤◌, ◌&&◌, List, [], ◌∷◌, ◌++◌, length, get_or, take, nat_le, nat_lt, Bool, true, false, Option, Some, None, option_map, slice_get, cond, refl, sym, ap, ◌∙◌, subst, inl, inr, All, Contains, arith}
+use Rattle.std.proofs.Common.{ℕ, zero, suc, ◌≡◌, ◌+◌, ◌-◌, ◌<◌, ◌≤◌, ◌&&◌, List, [], ◌∷◌, ◌++◌, length, get_or, take, nat_le, nat_lt, Bool, true, false, Option, Some, None, option_map, slice_get, cond, refl, sym, ap, ◌∙◌, inl, inr, Contains, arith}
 use Rattle.std.specs.List.{list_any}
 use Rattle.std.specs.Option.{option_map_or}
-use Rattle.std.proofs.lemmas.Bool.{cases_Bool, both_ways, and_from, and_parts, leb-true, ltb-true, le-leb, lt-ltb, false_from_ne_true}
+use Rattle.std.proofs.lemmas.Bool.{cases_Bool, both_ways, and_from, and_parts, leb-true, ltb-true, le-leb, lt-ltb}
 use Rattle.std.proofs.lemmas.Cmp.{nat_list_eq_equiv}
 use Rattle.std.proofs.lemmas.List.{length-take, get_or-take, take_more, map_push}
 use Rattle.std.proofs.lemmas.List.Folds.{Any-from_list_any, list_any_at}
@@ -13,10 +13,9 @@ use Rattle.am_types.specs.declared.Change.{Change}
 use Rattle.am_types.specs.Same.{same_bytes, same_id}
 use Rattle.am_types.specs.Operations.{Operation, numbered, operations}
 use Rattle.am_types.proofs.Orders.{same_bytes-true}
-use Rattle.am_types.proofs.Lists.{Contains-head, Contains-tail}
 use Rattle.am_types.proofs.Orders.{same_id-true, same_id_itself}
 use Rattle.am_laws.proofs.Growth.{same_answers}
-use Rattle.am_fits.specs.Facts.{Fact, fact_of, facts, fact_with}
+use Rattle.am_fits.specs.Facts.{Fact, fact_of, facts}
 use Rattle.am_fits.specs.Told.{own, own_fact}
 
 pub length-numbered : (s : ℕ) (a : List ℕ) (ops : List Op) → length (numbered s a ops) ≡ length ops
@@ -133,37 +132,6 @@ module _ (c : Change) (k : ℕ) where
           (ap (λ (z : Operation). same_id z.id i && p (fact_of z)) at ∙ and_from _ _ (ap (same_id d.id) g.4 ∙ same_id_itself d.id) (ap p (sym g.5) ∙ s.2))
 
 -- ---- the facts of a change join one by one
-
-pub fact_none : (xs : List Operation) (i : OpId) → ((x : Operation) → Contains xs x → same_id x.id i ≡ false) → fact_with (facts xs) i ≡ None
-fact_none [] i h = refl
-fact_none (x ∷ xs) i h =
-    let again : fact_with (facts xs) i ≡ None = fact_none xs i (λ y c. h y (Contains-tail x xs y c)) in
-    ap (λ b. cond b (Some (fact_of x)) (fact_with (facts xs) i)) (h x (Contains-head x xs)) ∙ again
-
-none_in_both : (fs gs : List (OpId × Fact)) (i : OpId) → fact_with fs i ≡ None → fact_with gs i ≡ None → fact_with (fs ++ gs) i ≡ None
-none_in_both [] gs i e f = f
-none_in_both (p ∷ fs) gs i e f =
-    let again : fact_with fs i ≡ None → fact_with (fs ++ gs) i ≡ None = λ g. none_in_both fs gs i g f in
-    elim (cases_Bool (same_id p.0 i)) [
-      | inl t ↦ absurd (no (sym (ap (λ b. cond b (Some p.1) (fact_with fs i)) t) ∙ e))
-      | inr t ↦ ap (λ b. cond b (Some p.1) (fact_with (fs ++ gs) i)) t ∙ again (sym (ap (λ b. cond b (Some p.1) (fact_with fs i)) t) ∙ e)
-    ]
-  where
-    no : Some p.1 ≡ None → ⊥
-    no g = cc
-
--- the operation at a place is new beside those before it
-pub still_new : (c : Change) (fs : List (OpId × Fact)) → All (λ x. fact_with fs x.id ≡ None) (operations c) → (k : ℕ) (op : Op) → k < length c.ops → fact_with (fs ++ facts (take k (operations c))) (own c k op).id ≡ None
-still_new c fs new k op l =
-    let size = length-operations c in
-    let lo : k < length (operations c) = omega arith in
-    let there : fact_with fs (own c k op).id ≡ None = subst (λ (x : Operation). fact_with fs x.id ≡ None) (own_get c k (own c k op) op l) (new k (own c k op) lo) in
-    none_in_both fs (facts (take k (operations c))) (own c k op).id there
-    (fact_none (take k (operations c)) (own c k op).id (λ x h.
-    let b = own_before c k x h in
-    let counter : x.id.counter ≡ c.start + b.0 = ap (λ (z : Operation). z.id.counter) b.3 in
-    let below : b.0 < k = b.1 in
-    false_from_ne_true (same_id x.id (own c k op).id) (λ t. let same : x.id.counter ≡ c.start + k = ap (λ (i : OpId). i.counter) (same_id-true x.id (own c k op).id t) in absurd (omega arith))))
 
 pub facts_more : (c : Change) (k : ℕ) (e : Op) → k < length c.ops → facts (take (k + 1) (operations c)) ≡ facts (take k (operations c)) ++ ((own c k (get_or c.ops k e)).id, fact_of (own c k (get_or c.ops k e))) ∷ []
 facts_more c k e l =

@@ -22,7 +22,7 @@ use Rattle.am_laws.proofs.Listed.{Facts}
 use Rattle.am_graph.specs.declared.reach.Reach.{Reach}
 use Rattle.am_graph.specs.Clocks.{covers, IsClockOf}
 use Rattle.am_fits.specs.Facts.{Fact, fact_of, facts_of}
-use Rattle.am_fits.specs.Told.{Telling, object_by, element_by, good_by, inserts, gives_to, told, own, IsGoodAt, IsBadAt, IsFirstBad}
+use Rattle.am_fits.specs.Told.{Telling, object_by, element_by, good_by, inserts, gives_to, ancestor_fact, own_fact, told, own, IsGoodAt, IsBadAt, IsFirstBad}
 use Rattle.am_fits.proofs.KnownBy.{known_by}
 use Rattle.am_fits.proofs.OwnOperations.{any_own, own_get, length-operations}
 
@@ -30,6 +30,12 @@ use Rattle.am_fits.proofs.OwnOperations.{any_own, own_get, length-operations}
 
 abbrev any_of : List Operation → Telling
 any_of S i p = list_any (λ x. same_id x.id i && p (fact_of x)) S
+
+either_way : (a b : Bool) → (a || b) ≡ (b || a)
+either_way true true = refl
+either_way true false = refl
+either_way false true = refl
+either_way false false = refl
 
 and_moved : (a b c : Bool) → ((a && b) && c) ≡ (a && (b && c))
 and_moved true b c = refl
@@ -88,6 +94,7 @@ module _ (C : List Member) (is : Facts C) (c : Change) (clock : List (List ℕ �
   told_is k i p =
       list_any-append (λ x. same_id x.id i && p (fact_of x)) known (take k (operations c))
       ∙ (λ j. known_by C is c.deps (covers clock) (λ i. (of.covers i).0) (λ i. (of.covers i).1) i p j || any_own c k i p j)
+      ∙ either_way (option_map_or p (ancestor_fact clock fs i) false) (option_map_or p (own_fact c k i) false)
 
   good_is : (k : ℕ) (x : Operation) → has_good_references (known ++ take k (operations c)) x ≡ good_by (told clock fs c k) x
   good_is k x = good_any (known ++ take k (operations c)) x ∙ good_same (any_of (known ++ take k (operations c))) (told clock fs c k) (told_is k) x

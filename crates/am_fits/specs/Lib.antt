@@ -2,6 +2,9 @@ pub mod Facts
 pub mod Sums
 pub mod Indexes
 pub mod Words
+pub mod Runs
+pub mod Tables
 pub mod Told
+pub mod Past
 pub mod Shown
 pub mod Samples

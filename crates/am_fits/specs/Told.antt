@@ -63,7 +63,7 @@ own_fact c k i =
     then option_map (λ op. fact_of (record { id = i; op = op })) (slice_get c.ops (i.counter - c.start)) else None
 
 abbrev pub told : List (List ℕ × Reach) → List (OpId × Fact) → Change → ℕ → Telling
-told clock fs c k i p = option_map_or p (ancestor_fact clock fs i) false || option_map_or p (own_fact c k i) false
+told clock fs c k i p = option_map_or p (own_fact c k i) false || option_map_or p (ancestor_fact clock fs i) false
 
 -- the operation of c at the place k has good references, or has none
 abbrev pub IsGoodAt : List (List ℕ × Reach) → List (OpId × Fact) → Change → ℕ → Type 0

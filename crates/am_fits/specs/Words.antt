@@ -4,6 +4,7 @@
 --     Words               the actors and the names of an index
 --     id_in w k, object_in w k, slot_in w k, fact_in w k     what a key means
 --     IsIdOf w k i ..     k is the key of the id i
+--     IsLast w l          l has an actor and its number
 use Rattle.std.specs.Prelude.{ℕ, ◌≡◌, List, [], map, All, Some, slice_index_or, ⊤}
 use Rattle.am_types.specs.declared.OpId.{OpId}
 use Rattle.am_types.specs.declared.ObjId.{ObjId}
@@ -18,7 +19,7 @@ use Rattle.am_fits.specs.declared.table.SlotKey.{SlotKey}
 use Rattle.am_fits.specs.declared.table.SlotKey.TheVariants.{Name, Head, Elem}
 use Rattle.am_fits.specs.declared.table.Kept.{Kept}
 use Rattle.am_fits.specs.declared.table.Texts.{Texts}
-use Rattle.am_fits.specs.declared.table.Table.{Table}
+use Rattle.am_fits.specs.declared.table.Last.{Last}
 use Rattle.am_fits.specs.Facts.{Fact}
 
 abbrev pub text_at : List (List ℕ) → ℕ → List ℕ
@@ -60,6 +61,9 @@ entry_in w e = (id_in w e.0, fact_in w e.1)
 
 -- ---- which key stands for what
 
+abbrev pub IsLast : Words → Last → Type 0
+IsLast w l = number w.authors l.actor.now ≡ Some l.author
+
 abbrev pub IsIdOf : Words → IdKey → OpId → Type 0
 IsIdOf w k i = (number w.authors i.actor ≡ Some k.author) × (k.counter ≡ i.counter)
 
@@ -90,13 +94,5 @@ pub record IsFactOf (w : Words) (k : Kept) (f : Fact) : Type 0 where
 abbrev pub IsKept : Words → IdKey × Kept → Type 0
 IsKept w e = IsIdOf w e.0 (id_in w e.0) × IsFactOf w e.1 (fact_in w e.1)
 
--- ---- a table
-
-abbrev pub facts_in : Table → List (OpId × Fact)
-facts_in t = map (entry_in (words_of t.texts)) t.kept.entries
-
 pub record AreKept (w : Words) (es : List (IdKey × Kept)) : Type 0 where
   pub each : All (IsKept w) es
-
-abbrev pub IsTable : Table → Type 0
-IsTable t = AreKept (words_of t.texts) t.kept.entries

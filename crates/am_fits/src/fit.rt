@@ -9,8 +9,9 @@ ghost use Rattle.am_graph.specs.Clocks.{reach_of};
 ghost use Rattle.am_graph.specs.Graphs.{ForSet};
 ghost use Rattle.am_fits.specs.Indexes.{ForValid, MayJoin};
 
+use crate::ancestors::Ancestors;
 use crate::index::OpIndex;
-use crate::known::Known;
+use crate::known::first_bad;
 use am_graph::{ClockFault, Graph, Reached};
 use am_types::{Change, Hash, Verdict};
 use std::alloc::{AllocError, Global};
@@ -39,12 +40,8 @@ pub fn fits(
     if let Some(dep) = low_dependency(graph, change) {
         return Ok(Verdict::StartLow(dep));
     }
-    let known = Known {
-        reached,
-        index,
-        change,
-    };
-    if let Some(place) = known.first_bad() {
+    let mut ancestors = Ancestors::new(reached, index, change.actor.as_slice());
+    if let Some(place) = first_bad(&mut ancestors, change) {
         return Ok(Verdict::BadReference(place));
     }
     if let Some(limit) = index.totals().with(change).limit() {

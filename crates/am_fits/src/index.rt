@@ -1,16 +1,13 @@
 //! The index of the operations of a set.
-ghost use Rattle.std.specs.Prelude.{◌≡◌, ◌++◌, ◌∷◌, [], List, OnOk, OnErr, option_map};
+ghost use Rattle.std.specs.Prelude.{◌≡◌, ◌++◌, ◌∷◌, [], List, OnOk, OnErr};
 ghost use Rattle.am_types.specs.declared.Change.{Change as AChange};
-ghost use Rattle.am_types.specs.Views.{id_of};
-ghost use Rattle.am_fits.specs.Facts.{fact_with};
 ghost use Rattle.am_fits.specs.Indexes.{index_of, index_with, ForChanges, MayAdmit};
-ghost use Rattle.am_fits.specs.Shown.{fact_shown};
 ghost use Rattle.am_fits.specs.Sums.{totals_of};
+ghost use Rattle.am_fits.specs.Tables.{facts_in, IsTable};
 
-use crate::seen::Seen;
 use crate::table::Table;
 use crate::totals::Totals;
-use am_types::{Change, IdRef, Twin};
+use am_types::{Change, Twin};
 use std::alloc::{AllocError, Global};
 use std::marker::Model;
 
@@ -27,7 +24,7 @@ impl Model for OpIndex {
 
     ghost Value = { Indexed };
 
-    ghost use Rattle.am_fits.specs.Words.{facts_in, IsTable};
+    ghost use Rattle.am_fits.specs.Tables.{facts_in, IsTable};
 
     ghost view = { λ x. record { facts = facts_in x.table; totals = x.totals } };
 
@@ -72,11 +69,12 @@ impl OpIndex {
         self.totals = totals;
     }
 
-    /// What is said of the operation with the id.
-    pub(crate) fn find(&self, id: IdRef<'_>) -> Option<Seen<'_>>
-        ensures { option_map fact_shown result ≡ fact_with self.now.facts (id_of id.entry) }
+    /// The operations.
+    pub(crate) fn table(&self) -> &Table
+        ensures facts { facts_in result.now ≡ self.now.facts }
+        ensures table { IsTable result.now }
     {
-        self.table.find(id)
+        &self.table
     }
 
     /// How many changes were taken in, and how many operations, predecessors and dependencies they have in all.

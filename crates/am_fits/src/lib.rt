@@ -1,10 +1,13 @@
 //! Whether a change fits a valid set of changes, by the graph of the set and an index of its operations.
 #![tactic(auto)]
 
+mod ancestors;
 mod fit;
 mod index;
 mod known;
+mod runs;
 mod seen;
+mod spans;
 mod table;
 #[cfg(test)]
 mod tests;

@@ -1,21 +1,25 @@
 //! What an index keeps of operations: small keys in place of ids and names.
-ghost use Rattle.std.specs.Prelude.{◌≡◌, ◌++◌, ◌∷◌, ◌+◌, ◌≤◌, ◌^◌, [], All, List, length, map, take, option_map, IfOk, OnOk, OnErr, None, Some};
+ghost use Rattle.std.specs.Prelude.{◌≡◌, ◌++◌, ◌∷◌, ◌+◌, ◌≤◌, ◌<◌, ◌^◌, ℕ, [], All, List, length, map, take, option_map, IfOk, OnOk, OnErr, None, Some, vec_len, vec_capacity};
 ghost use Rattle.am_types.specs.declared.OpId.{OpId};
 ghost use Rattle.am_types.specs.Operations.{operations, slot};
 ghost use Rattle.am_types.specs.Views.{id_of, object_of};
 ghost use Rattle.am_graph.specs.Reaches.{number};
-ghost use Rattle.am_fits.specs.Facts.{Fact, fact_of, facts, fact_with};
-ghost use Rattle.am_fits.specs.Words.{words_of, WordsGrow, IsIdOf, IsObjectOf, IsSlotOf, IsFactOf, IsTable, facts_in, id_in, object_in, slot_in, fact_in};
+ghost use Rattle.am_fits.specs.Facts.{fact_of, facts, fact_with};
+ghost use Rattle.am_fits.specs.Runs.{keys_of, AreNew};
+ghost use Rattle.am_fits.specs.Tables.{IsTable, IsLonger, KeepsEach, facts_in};
+ghost use Rattle.am_fits.specs.Words.{words_of, WordsGrow, IsIdOf, IsObjectOf, IsSlotOf, IsFactOf, IsLast, id_in, object_in, slot_in};
 ghost use Rattle.am_fits.specs.Shown.{slot_shown, fact_shown};
 
+use crate::runs::{Run, cut_each, enter, make_room, place_of};
 use crate::seen::{Seen, SlotRef};
+use crate::spans::{Span, drop_last};
 use crate::texts::{number, text_at};
 use am_types::{Change, IdRef, Key, ObjId, ObjRef, Op, OpId};
-use indexmap::{IndexMap, IndexSet};
+use indexmap::IndexSet;
 use std::alloc::{AllocError, Global};
 
 /// An id: the number of its actor among the authors, and its counter.
-#[derive(Clone, Copy, Debug, PartialEq, Eq, Hash)]
+#[derive(Clone, Copy, Debug, PartialEq, Eq)]
 pub(crate) struct IdKey {
     pub author: usize,
     pub counter: u64,
@@ -52,43 +56,82 @@ pub(crate) struct Texts {
     pub names: IndexSet<Vec<u8>>,
 }
 
-/// Operations by their ids.
+/// Operations by their places, in the order in which they came.
 #[derive(Drop)]
 pub(crate) struct Table {
     pub texts: Texts,
-    pub kept: IndexMap<IdKey, Kept>,
+    /// What is kept of each operation.
+    pub kept: Vec<Kept>,
+    /// The ids of the operations.
+    pub spans: Vec<Span>,
+    /// The places of each author's operations, by the author's number.
+    pub runs: Vec<Vec<Run>>,
+}
+
+/// The actor of the id that was looked at last, and its number.
+#[derive(Clone, Copy, Debug)]
+struct Last<'a> {
+    actor: &'a [u8],
+    author: usize,
 }
 
 impl Texts {
     /// The key of an id.
-    fn id(&mut self, alloc: Global, id: &OpId) -> Result<IdKey, AllocError>
+    fn id<'a>(
+        &mut self,
+        alloc: Global,
+        last: &mut Last<'a>,
+        id: &'a OpId,
+    ) -> Result<IdKey, AllocError>
+        requires { IsLast (words_of self.old) last.old }
         ensures grow { WordsGrow (words_of self.old) (words_of self.new) }
+        ensures last { IsLast (words_of self.new) last.new }
         ensures id { IfOk result (λ k. IsIdOf (words_of self.new) k id.now) }
     {
-        let author = number(alloc, &mut self.authors, id.actor.as_slice())?;
-        Ok(IdKey {
-            author,
-            counter: id.counter,
-        })
+        let counter = id.counter;
+        let actor = id.actor.as_slice();
+        if actor == last.actor {
+            return Ok(IdKey {
+                author: last.author,
+                counter,
+            });
+        }
+        let author = number(alloc, &mut self.authors, actor)?;
+        *last = Last { actor, author };
+        Ok(IdKey { author, counter })
     }
 
     /// The key of an object.
-    fn object(&mut self, alloc: Global, object: &ObjId) -> Result<ObjectKey, AllocError>
+    fn object<'a>(
+        &mut self,
+        alloc: Global,
+        last: &mut Last<'a>,
+        object: &'a ObjId,
+    ) -> Result<ObjectKey, AllocError>
+        requires { IsLast (words_of self.old) last.old }
         ensures grow { WordsGrow (words_of self.old) (words_of self.new) }
+        ensures last { IsLast (words_of self.new) last.new }
         ensures object { IfOk result (λ k. IsObjectOf (words_of self.new) k object.now) }
     {
         match object {
             ObjId::Root => Ok(ObjectKey::Root),
             ObjId::Made(id) => {
-                let key = self.id(alloc, id)?;
+                let key = self.id(alloc, last, id)?;
                 Ok(ObjectKey::Made(key))
             }
         }
     }
 
     /// The key of a slot.
-    fn slot(&mut self, alloc: Global, slot: &Key) -> Result<SlotKey, AllocError>
+    fn slot<'a>(
+        &mut self,
+        alloc: Global,
+        last: &mut Last<'a>,
+        slot: &'a Key,
+    ) -> Result<SlotKey, AllocError>
+        requires { IsLast (words_of self.old) last.old }
         ensures grow { WordsGrow (words_of self.old) (words_of self.new) }
+        ensures last { IsLast (words_of self.new) last.new }
         ensures slot { IfOk result (λ k. IsSlotOf (words_of self.new) k slot.now) }
     {
         match slot {
@@ -98,22 +141,30 @@ impl Texts {
             }
             Key::Head => Ok(SlotKey::Head),
             Key::Elem(id) => {
-                let key = self.id(alloc, id)?;
+                let key = self.id(alloc, last, id)?;
                 Ok(SlotKey::Elem(key))
             }
         }
     }
 
     /// What is kept of an operation with the id of this key.
-    fn kept(&mut self, alloc: Global, key: IdKey, op: &Op) -> Result<Kept, AllocError>
+    fn kept<'a>(
+        &mut self,
+        alloc: Global,
+        last: &mut Last<'a>,
+        key: IdKey,
+        op: &'a Op,
+    ) -> Result<Kept, AllocError>
+        requires { IsLast (words_of self.old) last.old }
         ensures grow { WordsGrow (words_of self.old) (words_of self.new) }
+        ensures last { IsLast (words_of self.new) last.new }
         ensures fact { IfOk result (λ kept. (i : OpId) → IsIdOf (words_of self.old) key i → IsFactOf (words_of self.new) kept (fact_of (record { id = i; op = op.now }))) }
     {
-        let object = self.object(alloc, &op.obj)?;
+        let object = self.object(alloc, last, &op.obj)?;
         let slot = if op.insert {
             SlotKey::Elem(key)
         } else {
-            self.slot(alloc, &op.key)?
+            self.slot(alloc, last, &op.key)?
         };
         Ok(Kept {
             object,
@@ -166,25 +217,34 @@ impl Table {
                 authors: IndexSet::new(alloc),
                 names: IndexSet::new(alloc),
             },
-            kept: IndexMap::new(alloc),
+            kept: Vec::new(alloc),
+            spans: Vec::new(alloc),
+            runs: Vec::new(alloc),
         }
     }
 
-    /// What is said of the operation with the id.
-    pub fn find(&self, id: IdRef<'_>) -> Option<Seen<'_>>
-        requires { IsTable self.now }
-        ensures { option_map fact_shown result ≡ fact_with (facts_in self.now) (id_of id.entry) }
+    /// The number of the actor, if it is an author.
+    pub fn author(&self, actor: &[u8]) -> Option<usize>
+        ensures { result ≡ number (words_of self.now.texts).authors actor.now }
     {
-        let Some(author) = self.texts.authors.get_index_of(id.actor) else {
+        self.texts.authors.get_index_of(actor)
+    }
+
+    /// What is said of the operation of the author, if there is one, with the counter.
+    pub fn at(&self, author: Option<usize>, counter: u64) -> Option<Seen<'_>>
+        requires { IsTable self.now }
+        ensures { (x : List ℕ) → author ≡ number (words_of self.now.texts).authors x → option_map fact_shown result ≡ fact_with (facts_in self.now) (record { counter = counter; actor = x }) }
+    {
+        let Some(author) = author else {
             return None;
         };
-        let key = IdKey {
-            author,
-            counter: id.counter,
-        };
-        let Some(kept) = self.kept.get(&key) else {
+        if author >= self.runs.len() {
+            return None;
+        }
+        let Some(place) = place_of(self.runs[author].as_slice(), counter) else {
             return None;
         };
+        let kept = self.kept[place];
         Some(Seen {
             object: self.texts.lend_object(kept.object),
             slot: self.texts.lend_slot(kept.slot),
@@ -202,8 +262,14 @@ impl Table {
         ensures ok { OnOk result (facts_in self.new ≡ facts_in self.old ++ facts (operations change.now)) }
         ensures err { OnErr result (facts_in self.new ≡ facts_in self.old) }
     {
+        if change.ops.as_slice().is_empty() {
+            return Ok(());
+        }
+        let author = number(alloc, &mut self.texts.authors, change.actor.as_slice())?;
+        make_room(alloc, &mut self.runs, author)?;
+        self.spans.reserve(1)?;
         let count = self.kept.len();
-        match self.add_each(alloc, change) {
+        match self.join(alloc, author, change) {
             Ok(()) => Ok(()),
             Err(error) => {
                 self.kept.truncate(count);
@@ -212,39 +278,33 @@ impl Table {
         }
     }
 
-    /// Adds the operations of the change; without memory only some of them.
-    fn add_each(&mut self, alloc: Global, change: &Change) -> Result<(), AllocError>
+    /// Adds the operations of a change of the author. Without memory there may be more behind what is kept, and nothing
+    /// else has changed.
+    fn join(&mut self, alloc: Global, author: usize, change: &Change) -> Result<(), AllocError>
         requires table { IsTable self.old }
-        requires new { All (λ x. fact_with (facts_in self.old) x.id ≡ None) (operations change.now) }
+        requires author { number (words_of self.old.texts).authors change.now.actor ≡ Some author }
+        requires new { AreNew (keys_of self.old.spans.items) (record { author = author; start = change.now.start; count = length change.now.ops }) }
+        requires some { 1 ≤ length change.now.ops }
         requires end { change.now.start + length change.now.ops ≤ 2 ^ 53 }
-        ensures table { IsTable self.new }
+        requires runs { author < length self.old.runs.items }
+        requires spans { vec_len self.old.spans < vec_capacity self.old.spans }
+        ensures table { OnOk result (IsTable self.new) }
         ensures ok { OnOk result (facts_in self.new ≡ facts_in self.old ++ facts (operations change.now)) }
-        ensures begins { (rest : List (OpId × Fact)) × (facts_in self.new ≡ facts_in self.old ++ rest) }
-    {
-        let author = number(alloc, &mut self.texts.authors, change.actor.as_slice())?;
-        let ops = change.ops.as_slice();
-        for i in 0..ops.len() {
-            let key = IdKey {
-                author,
-                counter: change.start + i as u64,
-            };
-            self.add_one(alloc, key, &ops[i])?;
-        }
-        Ok(())
-    }
-
-    /// Adds an operation with the id of this key.
-    fn add_one(&mut self, alloc: Global, key: IdKey, op: &Op) -> Result<(), AllocError>
-        requires table { IsTable self.old }
-        requires key { IsIdOf (words_of self.old.texts) key (id_in (words_of self.old.texts) key) }
-        requires new { fact_with (facts_in self.old) (id_in (words_of self.old.texts) key) ≡ None }
-        ensures table { IsTable self.new }
         ensures grow { WordsGrow (words_of self.old.texts) (words_of self.new.texts) }
-        ensures ok { OnOk result (facts_in self.new ≡ facts_in self.old ++ (id_in (words_of self.old.texts) key, fact_of (record { id = id_in (words_of self.old.texts) key; op = op.now })) ∷ []) }
-        ensures err { OnErr result (facts_in self.new ≡ facts_in self.old) }
+        ensures err { OnErr result (IsLonger self.old self.new) }
     {
-        let kept = self.texts.kept(alloc, key, op)?;
-        self.kept.insert(key, kept)?;
+        let run = Run {
+            start: change.start,
+            first: self.kept.len(),
+            count: change.ops.as_slice().len(),
+        };
+        keep_each(alloc, &mut self.texts, &mut self.kept, author, change)?;
+        enter(&mut self.runs[author], run)?;
+        self.spans.push_reserved(Span {
+            author,
+            start: run.start,
+            count: run.count,
+        });
         Ok(())
     }
 
@@ -254,7 +314,11 @@ impl Table {
         ensures table { IsTable self.new }
         ensures facts { facts_in self.new ≡ take count (facts_in self.old) }
     {
-        self.kept.truncate(count);
+        if count < self.kept.len() {
+            drop_last(&mut self.spans, self.kept.len() - count);
+            cut_each(&mut self.runs, count);
+            self.kept.truncate(count);
+        }
     }
 
     /// An equal table.
@@ -266,9 +330,43 @@ impl Table {
         let authors = self.texts.authors.clone()?;
         let names = self.texts.names.clone()?;
         let kept = self.kept.clone()?;
+        let spans = self.spans.clone()?;
+        let runs = self.runs.clone()?;
         Ok(Table {
             texts: Texts { authors, names },
             kept,
+            spans,
+            runs,
         })
     }
+}
+
+/// Keeps each operation of a change of the author behind what is kept; without memory only some of them.
+fn keep_each(
+    alloc: Global,
+    texts: &mut Texts,
+    kept: &mut Vec<Kept>,
+    author: usize,
+    change: &Change,
+) -> Result<(), AllocError>
+    requires author { number (words_of texts.old).authors change.now.actor ≡ Some author }
+    requires end { change.now.start + length change.now.ops ≤ 2 ^ 53 }
+    ensures grow { WordsGrow (words_of texts.old) (words_of texts.new) }
+    ensures begins { (rest : List Kept) × (kept.new.items ≡ kept.old.items ++ rest) }
+    ensures ok { OnOk result (KeepsEach (words_of texts.new) author change.now (length change.now.ops) kept.old.items kept.new.items) }
+{
+    let ops = change.ops.as_slice();
+    let mut last = Last {
+        actor: change.actor.as_slice(),
+        author,
+    };
+    for i in 0..ops.len() {
+        let key = IdKey {
+            author,
+            counter: change.start + i as u64,
+        };
+        let one = texts.kept(alloc, &mut last, key, &ops[i])?;
+        kept.push(one)?;
+    }
+    Ok(())
 }

@@ -3,7 +3,7 @@ use Rattle.am_types.specs.Ancestors.{ancestors}
 use Rattle.am_graph.specs.Clocks.{IsClockOf}
 use Rattle.am_graph.specs.Graphs.{IsLeast, having, missing, MatchFault}
 use Rattle.am_fits.specs.Sums.{totals_with, limit_of, AreWithinLimits}
-use Rattle.am_fits.proofs.Outcomes.{by_clash, by_gap, by_low, by_reference, by_limit, by_none, nothing_missing}
+use Rattle.am_fits.proofs.Outcomes.{by_clash, by_gap, by_low, by_reference, by_limit, by_none, bad_of, good_of, nothing_missing}
 use Rattle.am_fits.proofs.Sums.{set_within}
 use Rattle.am_fits.proofs.fit.fits.Goals as goal
 
@@ -37,7 +37,8 @@ returns-in-Some-first_bad c C are valid =
     by_reference c.args.graph.now c.args.index.now c.args.change.now C are valid
     (subst (λ a. IsLeast None (having c.args.graph.now a c.args.change.now.seq)) c.as_slice.ensures.value c.in_default.ensures.graph)
     c.in-Ok.reached (λ D e. subst (λ ds. IsClockOf (ancestors D ds) c.in-Ok.reached) c.as_slice-2.ensures (c.in-Ok.ensures.ok D e))
-    (sym c.has_gap.ensures ∙ c.if-has_gap.false) c.in_default-low_dependency.ensures c.in-Some-first_bad.place c.in-Some-first_bad.ensures.found
+    (sym c.has_gap.ensures ∙ c.if-has_gap.false) c.in_default-low_dependency.ensures c.in-Some-first_bad.place
+    (bad_of c.new-ancestors.result c.in-Ok.reached c.args.index.now.facts c.args.change.now c.in-Some-first_bad.place c.new-ancestors.ensures.clock c.new-ancestors.ensures.facts c.in-Some-first_bad.ensures.found)
 
 pub with-requires-clause-set : goal.with-requires-clause-set
 with-requires-clause-set c = subst AreWithinLimits (sym (c.totals.ensures ∙ ap (λ i. i.totals) c.requires.of_set.index)) (set_within c.requires.set c.requires.valid)
@@ -47,7 +48,8 @@ returns-in-Some-limit c C are valid =
     by_limit c.args.graph.now c.args.index.now c.args.change.now C are valid
     (subst (λ a. IsLeast None (having c.args.graph.now a c.args.change.now.seq)) c.as_slice.ensures.value c.in_default.ensures.graph)
     c.in-Ok.reached (λ D e. subst (λ ds. IsClockOf (ancestors D ds) c.in-Ok.reached) c.as_slice-2.ensures (c.in-Ok.ensures.ok D e))
-    (sym c.has_gap.ensures ∙ c.if-has_gap.false) c.in_default-low_dependency.ensures c.in_default-first_bad.ensures.none c.in-Some-limit.limit
+    (sym c.has_gap.ensures ∙ c.if-has_gap.false) c.in_default-low_dependency.ensures
+    (good_of c.new-ancestors.result c.in-Ok.reached c.args.index.now.facts c.args.change.now c.new-ancestors.ensures.clock c.new-ancestors.ensures.facts c.in_default-first_bad.ensures.none) c.in-Some-limit.limit
     (c.in-Some-limit.ensures ∙ ap limit_of (c.with.ensures ∙ ap (λ t. totals_with t c.args.change.now) c.totals.ensures))
 
 pub returns : goal.returns
@@ -55,5 +57,6 @@ returns c C are valid =
     by_none c.args.graph.now c.args.index.now c.args.change.now C are valid
     (subst (λ a. IsLeast None (having c.args.graph.now a c.args.change.now.seq)) c.as_slice.ensures.value c.in_default.ensures.graph)
     c.in-Ok.reached (λ D e. subst (λ ds. IsClockOf (ancestors D ds) c.in-Ok.reached) c.as_slice-2.ensures (c.in-Ok.ensures.ok D e))
-    (sym c.has_gap.ensures ∙ c.if-has_gap.false) c.in_default-low_dependency.ensures c.in_default-first_bad.ensures.none
+    (sym c.has_gap.ensures ∙ c.if-has_gap.false) c.in_default-low_dependency.ensures
+    (good_of c.new-ancestors.result c.in-Ok.reached c.args.index.now.facts c.args.change.now c.new-ancestors.ensures.clock c.new-ancestors.ensures.facts c.in_default-first_bad.ensures.none)
     (c.in_default-limit.ensures ∙ ap limit_of (c.with.ensures ∙ ap (λ t. totals_with t c.args.change.now) c.totals.ensures))

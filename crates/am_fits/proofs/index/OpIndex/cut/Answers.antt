@@ -1,6 +1,6 @@
 use Rattle.std.proofs.Common.{take, refl, ap, ◌∙◌}
 use Rattle.am_fits.specs.Indexes.{Indexed}
-use Rattle.am_fits.specs.Words.{facts_in}
+use Rattle.am_fits.specs.Tables.{facts_in}
 use Rattle.am_fits.proofs.Cut.{kept_index}
 use Rattle.am_fits.proofs.index.OpIndex.cut.Goals as goal
 
