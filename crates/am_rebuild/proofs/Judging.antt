@@ -1,5 +1,5 @@
 -- What the steps of a judgement say.
-use Rattle.std.proofs.Common.{suc, ◌≡◌, List, [], ◌∷◌, length, filter, not, Bool, true, false, Some, refl, sym, ap, ◌∙◌, subst, inl, inr, All, Contains, IsTrue, arith}
+use Rattle.std.proofs.Common.{ℕ, suc, ◌≡◌, List, [], ◌∷◌, length, filter, not, Bool, true, false, Some, refl, sym, ap, ◌∙◌, subst, inl, inr, All, Contains, IsTrue, arith}
 use Rattle.std.specs.List.{AllByRecursion, IsDistinct}
 use Rattle.std.specs.List.Sorted.{IsStrictlySortedBy}
 use Rattle.std.specs.Ordering.{is_eq, is_gt}
@@ -10,6 +10,7 @@ use Rattle.std.proofs.lemmas.Cmp.{eq_by_cmp_equiv}
 use Rattle.std.proofs.lemmas.Map.Keys.{IsDistinct-head, IsDistinct-tail, IsDistinct-IsPermutation}
 use Rattle.am_types.specs.declared.Hash.{Hash}
 use Rattle.am_types.specs.declared.Change.{Change}
+use Rattle.am_types.specs.declared.Row.{Row}
 use Rattle.am_types.specs.declared.Table.{Table}
 use Rattle.am_types.specs.Order.{bytes_cmp, hash_cmp, among, Ascends}
 use Rattle.am_types.specs.Operations.{all_operations}
@@ -23,39 +24,42 @@ use Rattle.am_laws.proofs.Rules.{distinct_hashes}
 use Rattle.am_types.proofs.Sorting.{IsPermutation-sorted_by}
 use Rattle.am_histories.proofs.Contained.{Contains-from_map}
 use Rattle.am_histories.proofs.Sorted.{Contains-here, Contains-there}
-use Rattle.am_types.specs.Rows.{rows}
 use Rattle.am_types.specs.Documents.{History}
 use Rattle.am_histories.specs.Rebuilt.{rebuilt}
 use Rattle.am_histories.specs.Laws.{AreHashedBy, table_actors}
-use Rattle.am_histories.specs.Building.{Builds}
 use Rattle.am_histories.proofs.Building.{builds_end}
 use Rattle.am_histories.proofs.Histories.{rebuilt_is}
 use Rattle.am_histories.proofs.Sound.{are_hashed}
 use Rattle.am_histories.proofs.Concluded.{no_history, other_rows, history}
-use Rattle.am_rebuild.specs.Joined.{BuildsAll}
+use Rattle.am_rebuild.specs.Joined.{BuiltGapless, BuildsGapless}
+use Rattle.am_rebuild.specs.Told.{TellsRest}
 use Rattle.am_rebuild.specs.Judged.{first_apart, IsLeastApart, IsTheHistory}
+use Rattle.am_rebuild.proofs.Agreeing.{rows_if, tells_if}
 use Rattle.am_rebuild.proofs.Apart.{sorted_hashes, least_apart}
 
 abbrev pub HasNone : (Change → Hash) → Table → Type 0
 HasNone hash_of t = (C : List Member) → AreHashedBy hash_of C → History t C → ⊥
 
+pub retold : (rs qs : List Row) (n k : ℕ) → rs ≡ qs → n ≡ k → TellsRest rs n → TellsRest qs k
+retold rs qs n k e f h = subst (TellsRest qs) f (subst (λ l. TellsRest l n) e h)
+
 module _ (hash_of : Change → Hash) (t : Table) (R : List Member) where
-  pub unbuilt : (b : Bool) → BuildsAll hash_of t R b → b ≡ false → HasNone hash_of t
+  pub unbuilt : (b : Bool) → BuildsGapless hash_of t R b → b ≡ false → HasNone hash_of t
   unbuilt true k e = absurd (both_ways true e refl)
   unbuilt false k e = no_history hash_of t k
 
-  pub built : (b : Bool) → BuildsAll hash_of t R b → b ≡ true → Builds hash_of t (length t.metas) R
+  pub built : (b : Bool) → BuildsGapless hash_of t R b → b ≡ true → BuiltGapless hash_of t (length t.metas) R
   built true k e = k
   built false k e = absurd (both_ways false refl e)
 
-  pub other : Builds hash_of t (length t.metas) R → (t.rows ≡ rows (all_operations (changes R)) → ⊥) → HasNone hash_of t
-  other b differ = no_history hash_of t (other_rows hash_of t R b differ)
+  pub other : BuiltGapless hash_of t (length t.metas) R → (TellsRest t.rows (length (all_operations (changes R))) → ⊥) → HasNone hash_of t
+  other b untold = no_history hash_of t (other_rows hash_of t R b.builds (λ e. untold (tells_if hash_of t R b e)))
 
-  pub the_history : Builds hash_of t (length t.metas) R → t.rows ≡ rows (all_operations (changes R)) → Ascends bytes_cmp t.actors → All (λ a. IsTrue (among bytes_cmp t.actors a)) (table_actors t) → IsTheHistory hash_of t R
-  the_history b same ascend known =
-      let is : rebuilt hash_of t ≡ R = (builds_end hash_of t (length t.metas) R b refl).0 in
+  pub the_history : BuiltGapless hash_of t (length t.metas) R → TellsRest t.rows (length (all_operations (changes R))) → Ascends bytes_cmp t.actors → All (λ a. IsTrue (among bytes_cmp t.actors a)) (table_actors t) → IsTheHistory hash_of t R
+  the_history b told ascend known =
+      let is : rebuilt hash_of t ≡ R = (builds_end hash_of t (length t.metas) R b.builds refl).0 in
       record {
-        history = history hash_of t R b same ascend known;
+        history = history hash_of t R b.builds (rows_if hash_of t R b told) ascend known;
         hashed = subst (AreHashedBy hash_of) is (are_hashed hash_of t);
         one = λ C hashed h. sym (rebuilt_is hash_of t C hashed h) ∙ is;
       }

@@ -4,14 +4,16 @@ pub mod Deduped
 pub mod Ordered
 pub mod Bounds
 pub mod Walked
+pub mod Mentioned
 pub mod Whole
+pub mod Numbered
 pub mod Loop
 pub mod Paths
 pub mod Apart
+pub mod Agreeing
 pub mod Judging
 pub mod Grows
 pub mod Noted
 pub mod Grown
 pub mod Entries
-pub mod SameRows
 pub mod Documents

@@ -9,7 +9,6 @@ use Rattle.std.proofs.lemmas.Bool.{cases_Bool, and_parts}
 use Rattle.std.proofs.lemmas.Cmp.{eq_by_cmp_equiv, tied_itself, nat_list_cmp_total}
 use Rattle.std.proofs.lemmas.List.{get_or-map, length-map}
 use Rattle.std.proofs.lemmas.List.Elements.{filter_agree}
-use Rattle.std.proofs.lemmas.List.Sorted.{IsPermutation-sym, Contains-permutation}
 use Rattle.std.proofs.lemmas.List.Kept.{Contains-dedup, Contains-from_dedup, IsStrictlySortedBy-dedup, IsStrictlySortedBy-filter}
 use Rattle.std.proofs.lemmas.Map.Views.{tells_apart}
 use Rattle.am_types.specs.declared.OpId.{OpId}
@@ -20,19 +19,20 @@ use Rattle.am_types.specs.Views.{id_of}
 use Rattle.am_types.proofs.Orders.{id_total, same_id-true, same_id_itself}
 use Rattle.am_laws.proofs.Ancestry.{Contains-filter, Contains-from_filter}
 use Rattle.am_histories.specs.Rebuilt.{ids, is_within, op_at, ops_within}
-use Rattle.am_histories.proofs.Sorted.{same_sorted, Contains-cases, Contains-here, Contains-there}
-use Rattle.am_histories.proofs.Contained.{Contains-map, Contains-from_map, Contains-flat_map, Contains-from_flat_map}
+use Rattle.am_histories.proofs.Sorted.{same_sorted, Contains-here, Contains-there}
+use Rattle.am_histories.proofs.Contained.{Contains-map, Contains-from_map}
 use Rattle.am_histories.proofs.Tests.{same_bytes-true}
-use Rattle.am_histories.proofs.Restored.{each_once-sorted, Contains-each_once, Contains-from_each_once}
+use Rattle.am_histories.proofs.Restored.{each_once-sorted}
 use Rattle.am_rebuild.specs.declared.mention.Named.{Named}
-use Rattle.am_rebuild.specs.Mentions.{Mention, named_in, row_mentions, mentions, author_cmp, by_author, mention_of, group_op, of_id, ops_in, AreSortedMentions}
+use Rattle.am_rebuild.specs.Mentions.{Mention, mentions, author_cmp, by_author, mention_of, group_op, of_id, ops_in, AreSortedMentions}
 use Rattle.am_rebuild.proofs.Authors.{author_total, author_exact}
 use Rattle.am_rebuild.proofs.Groups.{group_op-is}
 use Rattle.am_rebuild.proofs.Walked.{filter_map-agree}
+use Rattle.am_rebuild.proofs.Mentioned.{id_known, known_id}
 
 -- ---- general
 
-filter-map : {X Y : Type 0} (f : X → Y) (p : Y → Bool) (xs : List X) → filter p (map f xs) ≡ map f (filter (λ x. p (f x)) xs)
+pub filter-map : {X Y : Type 0} (f : X → Y) (p : Y → Bool) (xs : List X) → filter p (map f xs) ≡ map f (filter (λ x. p (f x)) xs)
 filter-map f p [] = refl
 filter-map f p (x ∷ xs) =
     let again = filter-map f p xs in
@@ -48,7 +48,7 @@ filter_inner p q (x ∷ xs) h =
       | inr e ↦ elim (cases_Bool (p x)) [ inl f ↦ simp (f, e) again | inr f ↦ simp (f, e) again ]
     ]
 
-sorted-map : {X K : Type 0} (R : K → K → Ordering) (f : X → K) (xs : List X) → IsSorted (on f R) xs → IsSorted R (map f xs)
+pub sorted-map : {X K : Type 0} (R : K → K → Ordering) (f : X → K) (xs : List X) → IsSorted (on f R) xs → IsSorted R (map f xs)
 sorted-map R f [] s k d z h = absurd (omega arith)
 sorted-map R f (x ∷ xs) s k d z h =
     let n = length-map (x ∷ xs) f in
@@ -64,7 +64,7 @@ same_answers false true f g = g refl
 same_answers false false f g = refl
 
 -- both orders tie only what is equal
-ties_alike : (x y : OpId) → same_id x y ≡ eq_by_cmp author_cmp x y
+pub ties_alike : (x y : OpId) → same_id x y ≡ eq_by_cmp author_cmp x y
 ties_alike x y = same_answers _ _
     (λ t. ap (λ i. eq_by_cmp author_cmp x i) (sym (same_id-true x y t)) ∙ ap is_eq (tied_itself author_total x))
     (λ t. ap (same_id x) (sym (tells_apart author_exact x y t)) ∙ same_id_itself x)
@@ -142,35 +142,19 @@ module _ (rows : List Row) (all : List Named) (s : AreSortedMentions rows all) (
       (x.0, f.0, f.1, ap mention_id x.2 ∙ m.2)
 
   ids_here : (i : OpId) → Contains (map mention_id (map mention_of part)) i → Contains (filter within (ids rows)) i
-  ids_here i c =
-      let x = named_here i c in
-      let there = subst (λ l. Contains l (mention_of x.0)) s.are (Contains-map mention_of s.unsorted x.0 (Contains-permutation all s.unsorted x.0 (IsPermutation-sym s.unsorted all s.moved) x.1)) in
-      let r = Contains-from_flat_map row_mentions rows (mention_of x.0) there in
-      let named : Contains (r.0.id ∷ r.0.succs) (id_of x.0.id) = elim (Contains-cases _ (mention_of x.0) (map (named_in r.0) r.0.succs) r.2) [
-        | inl e ↦ subst (Contains (r.0.id ∷ r.0.succs)) (ap mention_id e) (Contains-here r.0.id r.0.succs)
-        | inr d ↦ let q = Contains-from_map (named_in r.0) r.0.succs (mention_of x.0) d in Contains-there r.0.id (id_of x.0.id) r.0.succs (subst (Contains r.0.succs) (ap mention_id q.2) q.1)
-      ] in
-      subst (Contains (filter within (ids rows))) x.3
-      (Contains-filter within (ids rows) (id_of x.0.id) (Contains-each_once _ (id_of x.0.id) (Contains-flat_map (λ (r : Row). r.id ∷ r.succs) rows r.0 (id_of x.0.id) r.1 named)) x.2)
+  ids_here i c = let x = named_here i c in subst (Contains (filter within (ids rows))) x.3 (Contains-filter within (ids rows) (id_of x.0.id) (id_known rows all s x.0 x.1) x.2)
 
   ids_there : (i : OpId) → Contains (filter within (ids rows)) i → Contains (map mention_id (map mention_of part)) i
   ids_there i c =
       let f = Contains-from_filter within (ids rows) i c in
-      let r = Contains-from_flat_map (λ (r : Row). r.id ∷ r.succs) rows i (Contains-from_each_once _ i f.0) in
-      let m : (m : Mention) × Contains (row_mentions r.0) m × (m.id ≡ i) = elim (Contains-cases r.0.id i r.0.succs r.2) [
-        | inl e ↦ (record { id = r.0.id; own = true; row = r.0 }, Contains-here _ (map (named_in r.0) r.0.succs), e)
-        | inr d ↦ (named_in r.0 i, Contains-there _ (named_in r.0 i) (map (named_in r.0) r.0.succs) (Contains-map (named_in r.0) r.0.succs i d), refl)
-      ] in
-      let there = subst (λ l. Contains l m.0) (sym s.are) (Contains-flat_map row_mentions rows r.0 m.0 r.1 m.1) in
-      let x = Contains-from_map mention_of s.unsorted m.0 there in
-      let id_is : id_of x.0.id ≡ i = ap mention_id x.2 ∙ m.2 in
-      subst (Contains (map mention_id (map mention_of part))) id_is
-      (Contains-map mention_id (map mention_of part) (mention_of x.0) (Contains-map mention_of part x.0 (Contains-filter within_named all x.0 (Contains-permutation s.unsorted all x.0 s.moved x.1) (ap within id_is ∙ f.1))))
+      let x = known_id rows all s i f.0 in
+      subst (Contains (map mention_id (map mention_of part))) x.2
+      (Contains-map mention_id (map mention_of part) (mention_of x.0) (Contains-map mention_of part x.0 (Contains-filter within_named all x.0 x.1 (ap within x.2 ∙ f.1))))
 
   part_sorted : IsSorted by_author part → IsSorted author_cmp (map mention_id (map mention_of part))
   part_sorted up = sorted-map author_cmp mention_id (map mention_of part) (sorted-map (on mention_id author_cmp) mention_of part up)
 
-  ids_are : IsSorted by_author part → dedup same_id (map mention_id (map mention_of part)) ≡ filter within (ids rows)
+  pub ids_are : IsSorted by_author part → dedup same_id (map mention_id (map mention_of part)) ≡ filter within (ids rows)
   ids_are up = same_sorted author_total author_exact _ _
       (IsStrictlySortedBy-dedup author_total ties_alike (map mention_id (map mention_of part)) (part_sorted up))
       (by_authors actor (filter within (ids rows)) (λ i c. has_actor i (Contains-from_filter within (ids rows) i c).1)

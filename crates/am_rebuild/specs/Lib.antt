@@ -3,6 +3,6 @@ pub mod Joined
 pub mod Stops
 pub mod Judged
 pub mod Gathered
-pub mod SameRows
+pub mod Told
 pub mod Copied
 pub mod Documents

@@ -4,7 +4,7 @@ ghost use Rattle.am_types.specs.declared.Row.{Row};
 ghost use Rattle.am_histories.specs.Rebuilt.{change_at};
 ghost use Rattle.am_rebuild.specs.Mentions.{by_author, AreSortedMentions};
 ghost use Rattle.std.specs.List.Sorted.{IsSorted};
-ghost use Rattle.am_rebuild.specs.Joined.{TakesNext, BuildsAll};
+ghost use Rattle.am_rebuild.specs.Joined.{TakesNext, BuildsAll, BuildsGapless};
 ghost use Rattle.std.specs.Prelude.{◌≡◌, [], ◌-◌, ◌^◌, ◌<◌, List, All, IfOk};
 
 use crate::change::change_at;
@@ -33,6 +33,27 @@ fn join_next<J: Joining>(
     }
 }
 
+/// Builds the changes of the metas from all mentions in the rows, until one doesn't join, or a counter is missing.
+pub(crate) fn build_from<J: Joining>(
+    alloc: Global,
+    joining: &mut J,
+    all: &[Named<'_>],
+    metas: &[Meta],
+) -> Result<bool, AllocError>
+    requires empty { J.members joining.old ≡ [] }
+    requires sorted { IsSorted by_author all.now }
+    requires maxes { All (λ m. m.max < 2 ^ 53) metas.now }
+    ensures { IfOk result (λ built. (t : Table) → AreSortedMentions t.rows all.now → t.metas ≡ metas.now → BuildsGapless J.hash_of t (J.members joining.new) built) }
+{
+    for meta in metas {
+        let joined = join_next(alloc, joining, all, meta)?;
+        if !joined {
+            return Ok(false);
+        }
+    }
+    Ok(true)
+}
+
 /// Builds the changes of the metas, until one doesn't join.
 pub fn build<J: Joining>(
     alloc: Global,
@@ -45,11 +66,6 @@ pub fn build<J: Joining>(
     ensures { IfOk result (λ built. (t : Table) → t.rows ≡ rows.now → t.metas ≡ metas.now → BuildsAll J.hash_of t (J.members joining.new) built) }
 {
     let all = sorted_mentions(alloc, rows)?;
-    for meta in metas {
-        let joined = join_next(alloc, joining, &all, meta)?;
-        if !joined {
-            return Ok(false);
-        }
-    }
-    Ok(true)
+    let built = build_from(alloc, joining, &all, metas)?;
+    Ok(built)
 }

@@ -3,12 +3,11 @@ ghost use Rattle.am_types.specs.declared.Hash.{Hash};
 ghost use Rattle.am_types.specs.declared.Change.{Change};
 ghost use Rattle.am_types.specs.Members.{Member, changes, heads};
 ghost use Rattle.am_types.specs.Operations.{all_operations};
-ghost use Rattle.am_types.specs.Rows.{rows};
 ghost use Rattle.am_histories.specs.Rebuilt.{hash_at, last_max};
 ghost use Rattle.am_rebuild.specs.Joined.{member_of, Joined};
-ghost use Rattle.std.specs.Prelude.{◌≡◌, ◌↔◌, ◌<◌, List, length, IfOk, IsTrue};
+ghost use Rattle.std.specs.Prelude.{◌≡◌, ◌<◌, List, length, IfOk};
 
-use am_types::{Change, Hash, List, Row};
+use am_types::{Change, Hash, List};
 use std::alloc::{AllocError, Global};
 
 /// Members that joined so far.
@@ -31,9 +30,9 @@ pub trait Joining {
     fn join(&mut self, alloc: Global, change: Change) -> Result<bool, AllocError>
         ensures { IfOk result (Joined (members self.old) (member_of hash_of change) (members self.new)) };
 
-    /// Whether these are the rows of all operations.
-    fn has_rows(&self, alloc: Global, given: &[Row]) -> Result<bool, AllocError>
-        ensures { IfOk result (λ told. IsTrue told ↔ (given.now ≡ rows (all_operations (changes (members self.now))))) };
+    /// How many operations they have.
+    fn operation_count(&self) -> u64
+        ensures { result ≡ length (all_operations (changes (members self.now))) };
 
     /// The hashes on which no change depends, ascending.
     fn heads(&self, alloc: Global) -> Result<List<Hash>, AllocError>

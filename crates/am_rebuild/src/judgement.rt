@@ -4,8 +4,10 @@ ghost use Rattle.am_types.specs.Order.{bytes_cmp, hash_cmp, among, Ascends};
 ghost use Rattle.am_histories.specs.Laws.{table_actors};
 ghost use Rattle.am_rebuild.specs.Judged.{first_apart, IsJudged};
 
-use crate::building::build;
+use crate::building::build_from;
 use crate::joining::Joining;
+use crate::mention::sorted_mentions;
+use crate::telling::tell_all;
 use am_types::{ActorId, Hash, Table};
 use std::alloc::{AllocError, Global};
 use std::cmp::Ordering;
@@ -75,15 +77,12 @@ pub fn judge<J: Joining>(
     if !actors_ascend(table.actors.as_slice()) {
         return Ok(Judgement::NoHistory);
     }
-    if !build(
-        alloc,
-        joining,
-        table.rows.as_slice(),
-        table.metas.as_slice(),
-    )? {
+    let rows = table.rows.as_slice();
+    let all = sorted_mentions(alloc, rows)?;
+    if !build_from(alloc, joining, &all, table.metas.as_slice())? {
         return Ok(Judgement::NoHistory);
     }
-    if !joining.has_rows(alloc, table.rows.as_slice())? {
+    if !tell_all(alloc, rows, &all, joining.operation_count())? {
         return Ok(Judgement::NoHistory);
     }
     let heads = joining.heads(alloc)?;

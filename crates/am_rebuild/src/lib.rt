@@ -16,7 +16,7 @@ mod mention;
 mod order;
 mod path;
 mod rebuilding;
-mod same_rows;
+mod telling;
 #[cfg(test)]
 mod tests;
 

@@ -1,31 +1,18 @@
 //! Gathered changes as what changes are rebuilt into.
-ghost use Rattle.std.specs.Prelude.{◌≡◌, [], List, IfOk, map, vec_items};
-ghost use Rattle.am_types.specs.Members.{Member, changes};
+ghost use Rattle.std.specs.Prelude.{◌≡◌, [], List, vec_items};
+ghost use Rattle.am_types.specs.Members.{Member};
 ghost use Rattle.am_change.specs.Hashes.{own_hash};
 ghost use Rattle.am_delivery.specs.Waiting.{members_of};
 
 use crate::gathered::{Gathered, grow, may_join};
 use crate::joining::Joining;
 use crate::lasts::last_in;
-use crate::same_rows::same_rows;
 use am_change::{hash_of, is_fine};
 use am_fits::OpIndex;
 use am_graph::Graph;
-use am_rows::lent_rows;
-use am_types::{Change, Hash, List, Row};
+use am_types::{Change, Hash, List};
 use indexmap::IndexMap;
 use std::alloc::{AllocError, Global};
-
-/// The changes of these entries, lent.
-fn lent_changes(alloc: Global, entries: &[(Hash, Change)]) -> Result<Vec<&Change>, AllocError>
-    ensures { IfOk result (λ lent. map (λ c. c.now) lent.items ≡ changes (members_of entries.now)) }
-{
-    let mut lent = Vec::new(alloc);
-    for entry in entries {
-        lent.push(&entry.1)?;
-    }
-    Ok(lent)
-}
 
 impl Gathered {
     /// No changes.
@@ -77,10 +64,8 @@ impl Joining for Gathered {
         Ok(true)
     }
 
-    fn has_rows(&self, alloc: Global, given: &[Row]) -> Result<bool, AllocError> {
-        let changes = lent_changes(alloc, self.entries.as_slice())?;
-        let lent = lent_rows(alloc, changes.as_slice())?;
-        Ok(same_rows(given, &lent))
+    fn operation_count(&self) -> u64 {
+        self.index.totals().operations
     }
 
     fn heads(&self, alloc: Global) -> Result<List<Hash>, AllocError> {
