@@ -1,3 +1,4 @@
+pub mod AnyOrder
 pub mod Authors
 pub mod Chunking
 pub mod FirstChunk

@@ -1,3 +1,4 @@
+pub mod AnyOrder
 pub mod Files
 pub mod Grown
 pub mod History

@@ -6,6 +6,8 @@ mod actors;
 mod chunk;
 mod copies;
 #[cfg(test)]
+mod damage_tests;
+#[cfg(test)]
 mod document_tests;
 mod fault;
 mod file;

@@ -8,8 +8,10 @@ ghost use Rattle.am_types.specs.Ancestors.{ancestors};
 ghost use Rattle.am_types.specs.Canonical.{order};
 ghost use Rattle.am_types.specs.Deliver.{MayCome};
 ghost use Rattle.am_graph.specs.Graphs.{nodes, MatchFault};
+ghost use Rattle.am_change.specs.Hashes.{with_hashes};
 ghost use Rattle.am_change.specs.Judgement.{HasOwnHashes};
 ghost use Rattle.am_delivery.specs.Waiting.{members_of};
+ghost use Rattle.am_store.specs.AnyOrder.{ComesInAnyOrder};
 ghost use Rattle.am_store.specs.Kept.{Kept, IsKept, counts_of, Takes, Delivered};
 ghost use Rattle.am_store.specs.Files.{IsFile, FirstBad};
 ghost use Rattle.am_store.specs.History.{history};
@@ -26,7 +28,9 @@ use crate::lists::{changes_among, changes_with};
 use crate::report::{Counts, Report};
 use crate::saving::{document_of, push_chunks};
 use am_change::chunk_of;
-use am_delivery::{Pending, deliver, joins_no_more, keeps_what_came};
+use am_delivery::{
+    Pending, deliver, joins_no_more, keeps_what_came, listing_is_free, order_is_free,
+};
 use am_fits::OpIndex;
 use am_graph::{ClockFault, Graph};
 use am_laws::valid_sets_keep_rules;
@@ -82,6 +86,7 @@ impl Store {
         only_changes: bool,
     ) -> Result<Report, ReadFault>
         ensures ok { IfOk result (λ report. (cs : List AChange) × IsFile only_changes bytes.now cs × Delivered self.old cs report self.new) }
+        ensures order { OnOk result ((cs : List AChange) × IsFile only_changes bytes.now cs × ComesInAnyOrder self.old (with_hashes cs) self.new) }
         ensures load { IfErr result (λ fault. MatchLoad fault (λ e. FirstBad only_changes bytes.now e.chunk e.fault)) }
         ensures err { OnErr result (self.new ≡ self.old) }
     {
@@ -94,6 +99,7 @@ impl Store {
     pub fn deliver(&mut self, alloc: Global, changes: List<Change>) -> Result<Report, AllocError>
         requires { All Fine changes }
         ensures ok { IfOk result (λ report. Delivered self.old changes report self.new) }
+        ensures order { OnOk result (ComesInAnyOrder self.old (with_hashes changes) self.new) }
         ensures err { OnErr result (self.new ≡ self.old) }
     {
         let pairs = hashed(alloc, changes.as_slice())?;
@@ -106,10 +112,13 @@ impl Store {
         requires may_come { All MayCome (members_of (vec_items changes)) }
         requires own_hashes { HasOwnHashes (members_of (vec_items changes)) }
         ensures ok { IfOk result (λ report. Takes self.old (members_of (vec_items changes)) report self.new) }
+        ensures order { OnOk result (ComesInAnyOrder self.old (members_of (vec_items changes)) self.new) }
         ensures err { OnErr result (self.new ≡ self.old) }
     {
         keeps_what_came();
         joins_no_more();
+        listing_is_free();
+        order_is_free();
         let most = self.waiting.len() + changes.as_slice().len();
         let Ok(()) = self.closed.reserve(most) else {
             return Err(AllocError);

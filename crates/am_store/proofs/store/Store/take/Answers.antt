@@ -12,6 +12,7 @@ use Rattle.am_delivery.specs.Waiting.{member_of, members_of, waiting_of, IsTrack
 use Rattle.am_store.specs.Grown.{Grown}
 use Rattle.am_store.specs.Kept.{Kept, IsKept, Takes}
 use Rattle.am_store.specs.declared.report.Report.{Report}
+use Rattle.am_store.proofs.AnyOrder.{in_any_order}
 use Rattle.am_store.proofs.Taking.{begins_stored, begins_tracked, tracked_after, few_joined, kept_after, of_after, takes}
 use Rattle.am_store.proofs.store.Store.take.Goals as goal
 
@@ -141,3 +142,10 @@ returns-clause-ok c =
     let took = takes old w w refl kept fresh u L closed waiting stored base c.in-Ok-deliver.rejected c.count_of.result c.len-2.result rejected joined wait in
     subst (λ (o : Kept). Takes o L report (kept_of c.append.new.self.items (waiting_of u))) c.self.view_is
     (subst (λ es. Takes (kept_of old (waiting_of w)) L report (kept_of es (waiting_of u))) (sym items) took)
+
+pub returns-clause-order : goal.returns-clause-order
+returns-clause-order c =
+    let report : Report = record { added = c.count_of.result; waiting = c.len-2.result; rejected = c.in-Ok-deliver.rejected } in
+    let new = kept_of c.append.new.self.items (waiting_of c.deliver.new.waiting) in
+    let kept = subst IsKept c.self.view_is c.self.invariant.kept in
+    in_any_order c.listing_is_free.ensures c.args.self.now new (members_of (vec_items c.args.changes)) report kept c.requires.may_come (returns-clause-ok c) c.order_is_free.ensures

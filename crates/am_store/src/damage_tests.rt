@@ -1,0 +1,209 @@
+//! Damaged documents: each bit turned, each front part, and runs that claim more rows than there may be. What is wrong
+//! with each was told by another program.
+use crate::saving_tests::{BOTH, ONE};
+use crate::{LoadError, LoadFault, ReadFault, Report, Store};
+use am_doc::{DocFault, DocRef};
+use am_frame::{framed, next_frame};
+use std::alloc::Global;
+use std::process::Abort;
+use std::test::Fail;
+
+/// Each bit of a byte, the lowest first.
+const BITS: [u8; 8] = [1, 2, 4, 8, 16, 32, 64, 128];
+
+/// A document, and what is wrong with it where one bit is turned: a letter for each bit.
+struct Damaged {
+    document: &'static [u8],
+    /// At the type and the two bytes behind it, with the old checksum.
+    head: &'static str,
+    /// In the contents, with the checksum of the damaged ones.
+    mended: &'static str,
+}
+
+const DAMAGED: &[Damaged] = &[
+    Damaged {
+        document: ONE,
+        head: "ssssssssssssststssssssss",
+        mended: ONE_MENDED,
+    },
+    Damaged {
+        document: BOTH,
+        head: "sssssssstttstttslttttttt",
+        mended: BOTH_MENDED,
+    },
+];
+
+/// What is wrong with the document of one change.
+const ONE_MENDED: &str = "\
+    ddddddddddddddddhhhhhhhhddddddddhhhhhhhhhhhhhhhhhhhhhhhhhhhhhhhhhhhhhhhhhhhhhhhhhhhhhhhhhhhhhhhh\
+    hhhhhhhhhhhhhhhhhhhhhhhhhhhhhhhhhhhhhhhhhhhhhhhhhhhhhhhhhhhhhhhhhhhhhhhhhhhhhhhhhhhhhhhhhhhhhhhh\
+    hhhhhhhhhhhhhhhhhhhhhhhhhhhhhhhhhhhhhhhhhhhhhhhhhhhhhhhhhhhhhhhhhhhhhhhhhhhhhhhhhhhhhhhhhhhhhhhh\
+    cdccdddddddcdddcdddddddcdddcdddcdddddddcdddcdddcdddddddcdddcdddcdddddddcdddcdddcdddddddcdddcdddc\
+    dddddddccccddddddddcdddddddddddddddcdddddddddddddddcdddddddddddddddcdddddddddddddddcdddddddddddd\
+    dddcdddddddddddddddcdddddddddddddddcdddddddddddddddddddddddddddddddddddddddddddddnnnnndddddddddd\
+    nnnnnnddddddddddhhhhhhhdddddddddddddddddddddddddddddddddddddddddddddddddhhhhhhhddddddddddddddddd\
+    dddddddddnnnnnddddddddddddddddddhnhdddddddddddddddhhddddhhhhhhhddddddddddddddddddddddddd";
+
+/// What is wrong with the document of two changes. The places of its heads, behind the columns, are compared with nothing.
+const BOTH_MENDED: &str = "\
+    ddddddddddddddddhhhhhhnhddddddddhhhhhnhncdddddddhhhhhhhhhhhhhhhhhhhhhhhhhhhhhhhhhhhhhhhhhhhhhhhh\
+    hhhhhhhhhhhhhhhhhhhhhhhhhhhhhhhhhhhhhhhhhhhhhhhhhhhhhhhhhhhhhhhhhhhhhhhhhhhhhhhhhhhhhhhhhhhhhhhh\
+    hhhhhhhhhhhhhhhhhhhhhhhhhhhhhhhhhhhhhhhhhhhhhhhhhhhhhhhhhhhhhhhhhhhhhhhhhhhhhhhhhhhhhhhhhhhhhhhh\
+    hhhhhhhhhhhhhhhhhhhhhhhhhhhhhhhhhhhhhhhhhhhhhhhhhhhhhhhhhhhhhhhhhhhhhhhhhhhhhhhhhhhhhhhhhhhhhhhh\
+    hhhhhhhhhhhhhhhhhhhhhhhhhhhhhhhhhhhhhhhhhhhhhhhhhhhhhhhhhhhhhhhhhhhhhhhhhhhhhhhhhhhhhhhhhhhhhhhh\
+    hhhhhhhhhhhhhhhhhhhhhhhhhhhhhhhhhhhhhhhhhhhhhhhhhhhhhhhhhhhhhhhhhhhhhhhhhhhhhhhhcdcccddddddcdddc\
+    dddddddcdddcdddcdddddddcdddcdddcdddddddcdddcdddcdddddddcdddcdddcdddddddcdddcdddcdddddddccccdcddd\
+    dddcdddddddddddddddcdddddddddddddddcdddddddddddddddcdddddddddddddddcdddddddddddddddcdddddddddddd\
+    dddcdddddddddddddddcddddddddddddddddddddddddddddndddddddnddddddddddddddddnnnnnddnnnnnndddddddddd\
+    nnnnnnddnnnnnnddddddddddhhhhhhhdddddddddddddddddddddddddddddddddddddddddddddddddhhhhhhhddddddddd\
+    ndddddddnddddddddddddddddnnnnnddnnnnnnddddddddddddddddddhnhdddddddddddddddhhddddhhhhhhhdhhhhhhhd\
+    ddddddddddddddddadddddddaddddddd";
+
+/// The letter for what a file was found to be: `a` where it was read, `?` where another chunk than the first is bad.
+fn letter_of(read: Result<Report, ReadFault>) -> u8 {
+    match read {
+        Ok(_) => b'a',
+        Err(ReadFault::Load(LoadError { chunk: 1, fault })) => fault_letter(fault),
+        Err(_) => b'?',
+    }
+}
+
+fn fault_letter(fault: LoadFault) -> u8 {
+    match fault {
+        LoadFault::BadMagic => b'm',
+        LoadFault::Truncated => b't',
+        LoadFault::BadLength => b'l',
+        LoadFault::BadChecksum => b's',
+        LoadFault::ChunkType(_) => b'y',
+        LoadFault::CompressedChunk => b'z',
+        LoadFault::DocumentHere => b'?',
+        LoadFault::CompressedColumn => b'c',
+        LoadFault::BadChange => b'b',
+        LoadFault::BadDocument => b'd',
+        LoadFault::NoHistory => b'n',
+        LoadFault::HeadsMismatch(_) => b'h',
+    }
+}
+
+/// What an empty store finds the file to be.
+fn letter(alloc: Global, file: &[u8]) -> Result<u8, Fail> {
+    let mut store = Store::new(alloc)?;
+    Ok(letter_of(store.read_file(alloc, file, false)))
+}
+
+/// The bytes with this bit of the byte at this place turned.
+fn turned(alloc: Global, bytes: &[u8], place: usize, bit: u8) -> Result<Vec<u8>, Fail> {
+    let mut damaged = Vec::new(alloc);
+    for (i, byte) in bytes.iter().enumerate() {
+        damaged.push(if i == place { *byte ^ bit } else { *byte })?;
+    }
+    Ok(damaged)
+}
+
+#[test]
+fn a_turned_bit_is_found(rt: HostRuntime) -> Result<(), Fail> {
+    for damaged in DAMAGED {
+        finds_each_bit(&rt, rt.alloc(), damaged)?;
+    }
+    Ok(())
+}
+
+fn finds_each_bit(rt: &impl Abort, alloc: Global, damaged: &Damaged) -> Result<(), Fail> {
+    let mut head = damaged.head.bytes();
+    for (place, _) in damaged.document.iter().enumerate() {
+        for bit in BITS {
+            let want = match place {
+                0..=3 => b'm',
+                4..=7 => b's',
+                _ => head.next().unwrap_or(b's'),
+            };
+            let file = turned(alloc, damaged.document, place, bit)?;
+            assert_eq!(rt; letter(alloc, &file)?, want, "at byte {place}, bit {bit}");
+        }
+    }
+    Ok(())
+}
+
+#[test]
+fn a_turned_bit_is_found_where_the_checksum_is_right(rt: HostRuntime) -> Result<(), Fail> {
+    for damaged in DAMAGED {
+        finds_each_mended_bit(&rt, rt.alloc(), damaged)?;
+    }
+    Ok(())
+}
+
+fn finds_each_mended_bit(rt: &impl Abort, alloc: Global, damaged: &Damaged) -> Result<(), Fail> {
+    let contents = next_frame(damaged.document)?.contents;
+    let mut told = damaged.mended.bytes();
+    for (place, _) in contents.iter().enumerate() {
+        for bit in BITS {
+            let file = framed(alloc, 0, &turned(alloc, contents, place, bit)?)?;
+            let want = told.next().unwrap_or(b'?');
+            assert_eq!(rt;
+                letter(alloc, file.as_slice())?,
+                want,
+                "at byte {place}, bit {bit}"
+            );
+        }
+    }
+    Ok(())
+}
+
+#[test]
+fn each_front_part_is_truncated(rt: HostRuntime) -> Result<(), Fail> {
+    for damaged in DAMAGED {
+        finds_each_front_part(&rt, rt.alloc(), damaged.document)?;
+    }
+    Ok(())
+}
+
+fn finds_each_front_part(rt: &impl Abort, alloc: Global, document: &[u8]) -> Result<(), Fail> {
+    let mut front = Vec::new(alloc);
+    for byte in document {
+        let want = if front.is_empty() { b'a' } else { b't' };
+        assert_eq!(rt; letter(alloc, &front)?, want, "at {} bytes", front.len());
+        front.push(*byte)?;
+    }
+    assert_eq!(rt; letter(alloc, &front)?, b'a');
+    Ok(())
+}
+
+/// The front of the contents of a document of one change, whose columns are runs.
+const RUNS: [u8; 70] = [
+    0x01, 0x01, 0xaa, 0x01, 0xd9, 0x9a, 0xa0, 0x4d, 0x26, 0x27, 0xb0, 0x64, 0x62, 0xea, 0x18, 0x1e,
+    0x06, 0x3a, 0x2e, 0x07, 0xe1, 0x62, 0x55, 0xc0, 0x88, 0xd1, 0xfe, 0x97, 0xec, 0xf9, 0xc9, 0x64,
+    0xcf, 0xa6, 0xce, 0x32, 0x06, 0x01, 0x02, 0x03, 0x02, 0x13, 0x05, 0x23, 0x02, 0x40, 0x02, 0x56,
+    0x02, 0x07, 0x15, 0x06, 0x21, 0x05, 0x23, 0x05, 0x34, 0x04, 0x42, 0x05, 0x56, 0x05, 0x80, 0x01,
+    0x05, 0x7f, 0x00, 0x7f, 0x01, 0x7f,
+];
+
+/// What stands between the numbers of rows, which are one.
+const BETWEEN: [&[u8]; 8] = [
+    &[0x7f, 0x00, 0x7f, 0x00, 0x7f, 0x07],
+    &[0x01, 0x61],
+    &[0x00],
+    &[0x01],
+    &[],
+    &[0x01],
+    &[0x02],
+    &[0x00, 0x00],
+];
+
+#[test]
+fn runs_have_as_many_rows_as_there_may_be(rt: HostRuntime) -> Result<(), Fail> {
+    let most = of_rows(rt.alloc(), &[0x80, 0x80, 0x80, 0x02])?;
+    assert!(rt; DocRef::read(&most).is_ok());
+    let more = of_rows(rt.alloc(), &[0x81, 0x80, 0x80, 0x02])?;
+    assert!(rt; matches!(DocRef::read(&more), Err(DocFault::BadDocument)));
+    Ok(())
+}
+
+/// The contents with so many rows.
+fn of_rows(alloc: Global, count: &[u8]) -> Result<Vec<u8>, Fail> {
+    let mut contents = RUNS.to_vec(alloc)?;
+    for piece in BETWEEN {
+        contents.extend_from_slice(count)?;
+        contents.extend_from_slice(piece)?;
+    }
+    Ok(contents)
+}
