@@ -6,7 +6,7 @@
 use Rattle.std.specs.Prelude.{ℕ, List, [], ◌∷◌, length, nat_lt, eqb, codes, Option, None, Some, Ok, Err, if◌then◌else◌}
 use Rattle.std.specs.List.{slice_split, list_all}
 use Rattle.am_script.specs.declared.command.Command.{Command}
-use Rattle.am_script.specs.declared.command.Command.TheVariants.{Frames, Apply, Load, Save, SaveAll, Heads, Waiting, History, Show, Conflicts, Export, Bench}
+use Rattle.am_script.specs.declared.command.Command.TheVariants.{Frames, Apply, Load, Save, SaveAll, Heads, Waiting, History, Show, Conflicts, Audit, Export, Stats, Bench}
 use Rattle.am_script.specs.declared.fault.LineFault.TheVariants.{TooLong, Syntax}
 use Rattle.am_script.specs.Words.{Text, Read, made, space, is_word}
 use Rattle.am_script.specs.Tables.{Behind, by_table, nothing, name, number, hashes, hash_and_name}
@@ -23,7 +23,9 @@ commands =
     ∷ (codes "history", nothing History)
     ∷ (codes "show", hashes Show)
     ∷ (codes "conflicts", hashes Conflicts)
+    ∷ (codes "audit", hashes Audit)
     ∷ (codes "export", hash_and_name (λ both. Export both.0 both.1))
+    ∷ (codes "stats", nothing Stats)
     ∷ (codes "bench", number Bench)
     ∷ []
 

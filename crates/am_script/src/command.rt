@@ -24,8 +24,12 @@ pub enum Command {
     Show(List<Hash>),
     /// Prints all visible entries at these heads, or at those of the closed set where none is named.
     Conflicts(List<Hash>),
+    /// Prints what `Show` prints, made by a replay of the changes each time.
+    Audit(List<Hash>),
     /// Keeps the chunk of the change of the closed set with this hash in the file of this name.
     Export(Hash, Text),
+    /// Tells how much the store holds, and how often a view was found.
+    Stats,
     /// Measures a document of this many generated changes, at most 100,000.
     Bench(u64),
 }

@@ -59,8 +59,14 @@ fn by_words(
     if is_same(first, "conflicts") {
         return Ok(all_hashes(alloc, more)?.map(Command::Conflicts));
     }
+    if is_same(first, "audit") {
+        return Ok(all_hashes(alloc, more)?.map(Command::Audit));
+    }
     if is_same(first, "export") {
         return Ok(hash_and_name(alloc, more)?.map(|(hash, name)| Command::Export(hash, name)));
+    }
+    if is_same(first, "stats") {
+        return Ok(alone(Command::Stats, more));
     }
     if is_same(first, "bench") {
         return Ok(one_number(more).map(Command::Bench));

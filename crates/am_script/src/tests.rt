@@ -48,6 +48,14 @@ fn shown(alloc: Global, line: &[u8]) -> Option<List<Hash>> {
     }
 }
 
+// The hashes at which a line replays the changes.
+fn audited(alloc: Global, line: &[u8]) -> Option<List<Hash>> {
+    match command(alloc, line) {
+        Some(Command::Audit(hashes)) => Some(hashes),
+        _ => None,
+    }
+}
+
 #[test]
 fn lines_are_commands(rt: HostRuntime) -> Result<(), Fail> {
     let alloc = rt.alloc();
@@ -60,6 +68,8 @@ fn lines_are_commands(rt: HostRuntime) -> Result<(), Fail> {
     let export = format!(in alloc; "export {A_HASH} A1")?;
     assert!(rt; matches!(exported(alloc, export.as_bytes()), Some(name) if name.as_str() == "A1"));
     assert!(rt; matches!(command(alloc, b"history"), Some(Command::History)));
+    assert!(rt; matches!(command(alloc, b"stats"), Some(Command::Stats)));
+    assert!(rt; matches!(audited(alloc, b"audit"), Some(hashes) if hashes.len() == 0));
     assert!(rt; matches!(command(alloc, b"bench 0"), Some(Command::Bench(0))));
     assert!(rt;
         matches!(
@@ -80,25 +90,6 @@ fn lines_are_refused(rt: HostRuntime) -> Result<(), Fail> {
     assert!(rt; matches!(read_line(alloc, b"conflicts x"), Err(LineFault::BadHash)));
     assert!(rt; matches!(read_line(alloc, b"export x A1"), Err(LineFault::BadHash)));
     assert!(rt; matches!(read_line(alloc, b"export x"), Err(LineFault::Syntax)));
-    let export = format!(in alloc; "export x {A_HASH}")?;
-    assert!(rt; matches!(read_line(alloc, export.as_bytes()), Err(LineFault::BadHash)));
-    let mut long_name = export;
-    for _ in 0..15 {
-        long_name.push_str(A_HASH)?;
-    }
-    assert!(rt;
-        matches!(
-            read_line(alloc, long_name.as_bytes()),
-            Err(LineFault::BadHash)
-        )
-    );
-    long_name.push('x')?;
-    assert!(rt;
-        matches!(
-            read_line(alloc, long_name.as_bytes()),
-            Err(LineFault::Syntax)
-        )
-    );
     assert!(rt; matches!(read_line(alloc, b"shows x"), Err(LineFault::Syntax)));
     assert!(rt; matches!(read_line(alloc, b"show  x"), Err(LineFault::Syntax)));
     assert!(rt; matches!(read_line(alloc, b"heads "), Err(LineFault::Syntax)));
@@ -112,6 +103,25 @@ fn lines_are_refused(rt: HostRuntime) -> Result<(), Fail> {
             Err(LineFault::Syntax)
         )
     );
+    Ok(())
+}
+
+// Whether a line is told as a word that is no hash.
+fn has_bad_hash(alloc: Global, line: &[u8]) -> bool {
+    matches!(read_line(alloc, line), Err(LineFault::BadHash))
+}
+
+#[test]
+fn a_long_name_is_told_before_a_bad_hash(rt: HostRuntime) -> Result<(), Fail> {
+    let alloc = rt.alloc();
+    let mut line = format!(in alloc; "export x {A_HASH}")?;
+    assert!(rt; has_bad_hash(alloc, line.as_bytes()));
+    for _ in 0..15 {
+        line.push_str(A_HASH)?;
+    }
+    assert!(rt; has_bad_hash(alloc, line.as_bytes()));
+    line.push('x')?;
+    assert!(rt; matches!(read_line(alloc, line.as_bytes()), Err(LineFault::Syntax)));
     Ok(())
 }
 
