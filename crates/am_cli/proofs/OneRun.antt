@@ -2,7 +2,7 @@
 -- sets are listed.
 use Rattle.std.proofs.Common.{◌≡◌, ℕ, ◌-◌, List, [], ◌∷◌, ◌++◌, length, Bool, true, false, Option, Some, None, refl, sym, ap, subst, ◌∙◌, inl, inr, ◌⊎◌, arith}
 use Rattle.std.specs.Prelude.{All, Contains, IsPermutation, map, option_map}
-use Rattle.std.proofs.lemmas.List.Sorted.{IsPermutation-refl, IsPermutation-sym, IsPermutation-trans, IsPermutation-map, Contains-permutation, length_permutation}
+use Rattle.std.proofs.lemmas.List.Sorted.{IsPermutation-refl, IsPermutation-sym, IsPermutation-trans, IsPermutation-map, Contains-permutation, length_permutation, sum_by-IsPermutation}
 use Rattle.std.specs.FinMap.{insert}
 use Rattle.am_outside.specs.Files.{Files, Stands}
 use Rattle.am_frame.specs.Frames.{Chunk, IsFile}
@@ -11,7 +11,9 @@ use Rattle.am_frame.specs.declared.FrameFault.{FrameFault}
 use Rattle.am_types.specs.declared.Change.{Change}
 use Rattle.am_types.specs.declared.Hash.{Hash}
 use Rattle.am_types.specs.Order.{hash_cmp, sorted_by, same as same_by}
-use Rattle.am_types.specs.Members.{Member, hashes, heads, member}
+use Rattle.am_types.specs.Fine.{pred_count}
+use Rattle.am_types.specs.Members.{Member, changes, hashes, member}
+use Rattle.am_types.specs.ValidSets.{Valid}
 use Rattle.am_types.specs.Deliver.{AreStored, MayCome}
 use Rattle.am_types.proofs.Orders.{same_hash-true}
 use Rattle.am_laws.specs.Laws.{ListingIsFree, ValidSetsKeepRules}
@@ -19,6 +21,7 @@ use Rattle.am_delivery.specs.Laws as delivery
 use Rattle.am_delivery.proofs.Deliveries.{distinct_from_pairs}
 use Rattle.am_delivery.proofs.Members.{unique}
 use Rattle.am_delivery.proofs.Reasons.{find_same}
+use Rattle.am_doc.specs.Contents.{body}
 use Rattle.am_change.specs.Contents.{chunk}
 use Rattle.am_change.specs.Hashes.{with_hashes}
 use Rattle.am_store.specs.Kept.{Kept}
@@ -30,15 +33,19 @@ use Rattle.am_cli.proofs.Alike.{read_alike, document_alike}
 use Rattle.am_cli.proofs.Coming.{changes_may_come}
 use Rattle.am_cli.specs.declared.request.Request.{Request}
 use Rattle.am_cli.specs.declared.request.Request.TheVariants.{Do, LongLine, Syntax, BadHash}
-use Rattle.am_cli.specs.Session.{Held, SameSets, SameHeld, nothing_held, with_kept}
+use Rattle.am_cli.specs.Session.{Held, SameSets, SameHeld, nothing_held, with_kept, with_views}
 use Rattle.am_cli.proofs.SameHeld.{MayHold, same_held, between, same_with}
 use Rattle.am_cli.specs.Replies.{hash_list, kept_reply}
 use Rattle.am_cli.specs.Listing.{Lists, listing, bad_chunk}
 use Rattle.am_cli.specs.Apply.{Applies, Delivers, outcome, report_text, bad_file}
+use Rattle.am_cli.specs.Reading.{named_or_heads, reading}
+use Rattle.am_cli.specs.Views.{view_at, viewed, Shows}
+use Rattle.am_cli.specs.Stats.{stats_line, stats_text}
 use Rattle.am_cli.specs.History.{history_text}
+use Rattle.am_json.specs.declared.Form.{Form}
 use Rattle.am_json.specs.declared.Form.TheVariants as form
 use Rattle.am_cli.specs.Machine.{State, state, first_state, SameState, with_file, Keeps, Exports, Answers, Runs, left_after}
-use Rattle.am_script.specs.declared.Command.TheVariants.{Frames, Apply, Load, Save, SaveAll, Heads, Waiting, History, Show, Conflicts, Export, Bench}
+use Rattle.am_script.specs.declared.Command.TheVariants.{Frames, Apply, Load, Save, SaveAll, Heads, Waiting, History, Show, Conflicts, Audit, Export, Stats, Bench}
 
 -- what the crates below promise
 pub record Laws : Type 0 where
@@ -166,6 +173,50 @@ one_applied law only c s t may p k (Some bytes) (Some others) r q end last e f g
           right = subst (SameHeld c) (sym y.4) k;
         }
 
+-- the hashes at which something is read don't depend on how the closed set is listed
+one_place : Laws → (named : List Hash) (C D : List Member) → Valid C → IsPermutation C D → named_or_heads named D ≡ named_or_heads named C
+one_place law [] C D valid same = (law.reads C D valid same).heads
+one_place law (h ∷ hs) C D valid same = refl
+
+-- what is held once this was shown
+abbrev shown : Form → List Hash → Held → Held
+shown form named c = with_views c (viewed (view_at form (named_or_heads named c.kept.closed)) (reading form named c.kept.closed) c.views)
+
+one_shown : Laws → (form : Form) (named : List Hash) (c s end : Held) (r : List ℕ) → MayHold c → SameHeld c s → Shows form named s r end → (r ≡ reading form named c.kept.closed) × SameHeld (shown form named c) end
+one_shown law form named c s end r may p f =
+    let told = f.0 ∙ read_alike law.reads form named c.kept.closed s.kept.closed may.valid p.sets.closed in
+    let at = one_place law named c.kept.closed s.kept.closed may.valid p.sets.closed in (
+      told,
+      subst (SameHeld (shown form named c)) (sym f.1) (record { sets = p.sets; views = λ i. viewed (view_at form (sym at i)) (sym told i) (p.views i) }),
+    )
+
+one_show : Laws → (form : Form) (named : List Hash) (c s t : State) (r q : List ℕ) (end other : State) → Sound c → SameState c s → SameState c t
+    → Shows form named s.held r end.held → end.files ≡ s.files → Shows form named t.held q other.held → other.files ≡ t.files → Agree r q end other
+one_show law form named c s t r q end other sound p k f e g d =
+    let here = one_shown law form named c.held s.held end.held r sound.held p.held f in
+    let there = one_shown law form named c.held t.held other.held q sound.held k.held g in
+    record {
+      reply = here.0 ∙ sym there.0;
+      next = state (shown form named c.held) c.files;
+      sound = record { held = sound.held; told = sound.told; files = sound.files };
+      left = record { held = here.1; files = p.files ∙ sym e };
+      right = record { held = there.1; files = k.files ∙ sym d };
+    }
+
+-- what is told of the sets doesn't depend on how they are listed
+one_stats : Laws → (c s : Held) → MayHold c → SameHeld c s → stats_text s.kept s.views.hits ≡ stats_text c.kept c.views.hits
+one_stats law c s may p =
+    let C = c.kept.closed in
+    let D = s.kept.closed in
+    let all = IsPermutation-map (λ (m : Member). m.change) C D p.sets.closed in
+    let many = length_permutation C D p.sets.closed in
+    let operations = sum_by-IsPermutation (λ (c : Change). length c.ops) (changes C) (changes D) all in
+    let preds = sum_by-IsPermutation (λ (c : Change). pred_count c.ops) (changes C) (changes D) all in
+    let links = sum_by-IsPermutation (λ (c : Change). length c.deps) (changes C) (changes D) all in
+    let waiting = length_permutation c.kept.waiting s.kept.waiting p.sets.waiting in
+    let tables = (law.reads C D may.valid p.sets.closed).table in
+    λ i. stats_line (record { changes = many i; operations = operations i; preds = preds i; links = links i; waiting = waiting i }) (length (body (tables i))) (sym p.views i).hits
+
 one_found : (c s t : State) (name : List ℕ) (file other : Option (List ℕ)) → Sound c → SameState c s → SameState c t → Stands s.files name file → Stands t.files name other → file ≡ other
 one_found c s t name file other sound p k f g =
     let a = subst (λ x. Stands x name file) (sym p.files ∙ sound.files) f in
@@ -247,15 +298,19 @@ one_answer law c s t (Do History) r q end other sound p k f g =
     let there = (law.reads c.held.kept.closed t.held.kept.closed sound.held.valid k.held.sets.closed).order in
     stay c s t r q end other sound p k (f.0 ∙ ap (λ members. history_text (map line_of members)) (here ∙ sym there) ∙ sym g.0) f.1 g.1
 one_answer law c s t (Do (Show named)) r q end other sound p k f g =
+    one_show law form.Winners named c s t r q end other sound p k f.0 f.1 g.0 g.1
+one_answer law c s t (Do (Conflicts named)) r q end other sound p k f g =
+    one_show law form.All named c s t r q end other sound p k f.0 f.1 g.0 g.1
+one_answer law c s t (Do (Audit named)) r q end other sound p k f g =
     let here = read_alike law.reads form.Winners named c.held.kept.closed s.held.kept.closed sound.held.valid p.held.sets.closed in
     let there = read_alike law.reads form.Winners named c.held.kept.closed t.held.kept.closed sound.held.valid k.held.sets.closed in
     stay c s t r q end other sound p k (f.0 ∙ here ∙ sym there ∙ sym g.0) f.1 g.1
-one_answer law c s t (Do (Conflicts named)) r q end other sound p k f g =
-    let here = read_alike law.reads form.All named c.held.kept.closed s.held.kept.closed sound.held.valid p.held.sets.closed in
-    let there = read_alike law.reads form.All named c.held.kept.closed t.held.kept.closed sound.held.valid k.held.sets.closed in
-    stay c s t r q end other sound p k (f.0 ∙ here ∙ sym there ∙ sym g.0) f.1 g.1
 one_answer law c s t (Do (Export hash name)) r q end other sound p k f g =
     one_export c s t hash name (chunk_in c.held.kept.closed hash) _ _ r q end other sound p k (one_chunk law c.held s.held sound.held p.held hash) (one_chunk law c.held t.held sound.held k.held hash) f g
+one_answer law c s t (Do Stats) r q end other sound p k f g =
+    let here = one_stats law c.held s.held sound.held p.held in
+    let there = one_stats law c.held t.held sound.held k.held in
+    stay c s t r q end other sound p k (f.0 ∙ here ∙ sym there ∙ sym g.0) f.1 g.1
 one_answer law c s t (Do (Bench count)) r q end other sound p k f g = stay c s t r q end other sound p k (f.0 ∙ sym g.0) f.1 g.1
 one_answer law c s t LongLine r q end other sound p k f g = stay c s t r q end other sound p k (f.0 ∙ sym g.0) f.1 g.1
 one_answer law c s t Syntax r q end other sound p k f g = stay c s t r q end other sound p k (f.0 ∙ sym g.0) f.1 g.1

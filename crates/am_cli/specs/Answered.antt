@@ -33,7 +33,7 @@ pub record Answered (asked : Request) (old : Held) (before : Seen) (result : Res
   -- the folder is blamed only where it failed, by what names a file, and then no file is touched but one that is kept
   pub failed : IsErrOf result File → Rose before.faults after.faults
   pub names : IsErrOf result File → IsTrue (names_file asked)
-  pub left : IsErrOf result File → FilesStay (kept_file asked) before.files after.files
+  pub left : IsErrOf result File → FilesStay (kept_file old asked) before.files after.files
   pub no_memory : IsErrOf result NoMemory → after.files ≡ before.files
   -- no call failed but the last, where the folder is blamed
   pub ended : Ended (is_err_at is_file_stop result) before.calls after.calls

@@ -20,6 +20,7 @@ use crate::replies::refusal;
 use crate::request::RequestRef;
 use crate::saving::{exported, saved, saved_all};
 use crate::session::Session;
+use crate::stats::tell_stats;
 use am_json::Form;
 use am_outside::{FetchFault, Folder};
 use am_script::Command;
@@ -95,7 +96,7 @@ fn loaded<F: Folder>(
 }
 
 /// The reply to what is asked for, and what it does to the session.
-#[tactic(auto, using(crate::proofs::Present::reading_is_there, crate::proofs::Present::bench_is_there, crate::proofs::FirstFault::no_call))]
+#[tactic(auto, using(crate::proofs::Present::shown_is_there, crate::proofs::Present::reading_is_there, crate::proofs::Present::stats_is_there, crate::proofs::Present::bench_is_there, crate::proofs::FirstFault::no_call))]
 pub fn answer<F: Folder>(
     alloc: Global,
     request: RequestRef<'_>,
@@ -119,14 +120,18 @@ pub fn answer<F: Folder>(
         RequestRef::Do(Command::Waiting) => Ok(list_waiting(alloc, session.store())?),
         RequestRef::Do(Command::History) => Ok(list_history(alloc, session.store())?),
         RequestRef::Do(Command::Show(named)) => {
-            Ok(read(alloc, Form::Winners, named.as_slice(), session.store())?)
+            Ok(session.show(alloc, Form::Winners, named.as_slice())?)
         }
         RequestRef::Do(Command::Conflicts(named)) => {
-            Ok(read(alloc, Form::All, named.as_slice(), session.store())?)
+            Ok(session.show(alloc, Form::All, named.as_slice())?)
+        }
+        RequestRef::Do(Command::Audit(named)) => {
+            Ok(read(alloc, Form::Winners, named.as_slice(), session.store())?)
         }
         RequestRef::Do(Command::Export(hash, name)) => {
             exported(alloc, hash, name, session, files)
         }
+        RequestRef::Do(Command::Stats) => Ok(tell_stats(alloc, session)?),
         RequestRef::Do(Command::Bench(count)) => Ok(bench(alloc, *count)?),
     }
 }

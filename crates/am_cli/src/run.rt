@@ -19,7 +19,7 @@ use am_types::{List, Text};
 use std::alloc::Global;
 
 /// How a run ended. After `FileFault`, `OutputFault` and `NoMemory` some first commands of the script were carried out,
-/// and none after them was begun.
+/// perhaps none. Of the commands behind them the next one alone may have been begun.
 #[derive(Clone, Copy, Debug, PartialEq, Eq)]
 pub enum Status {
     /// All commands were carried out, all replies written, and none refuses.
@@ -164,6 +164,8 @@ pub fn run<I: Source, F: Folder, O: Sink>(
 #[cfg(test)]
 mod chunks;
 #[cfg(test)]
+mod failing;
+#[cfg(test)]
 mod forms;
 #[cfg(test)]
 mod limits;
@@ -172,8 +174,12 @@ mod memory;
 #[cfg(test)]
 mod notes;
 #[cfg(test)]
+mod orders;
+#[cfg(test)]
 mod saves;
 #[cfg(test)]
 mod scripts;
+#[cfg(test)]
+mod sure;
 #[cfg(test)]
 mod tests;

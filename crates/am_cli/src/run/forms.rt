@@ -99,7 +99,7 @@ fn changes_are_told_in_order(rt: HostRuntime) -> Result<(), Fail> {
 fn generated_changes_are_measured(rt: HostRuntime) -> Result<(), Fail> {
     let alloc = rt.alloc();
     let mut files = folder(alloc, Vec::new(alloc))?;
-    let script = b"bench 0\nbench 1\nbench 4\nbench 7\nheads\n".to_vec(alloc)?;
+    let script = b"bench 0\nbench 1\nbench 4\nbench 7\nheads\nstats\n".to_vec(alloc)?;
     let (status, out) = outcome(alloc, &mut files, script)?;
     assert_eq!(rt; status, Status::Done);
     assert_eq!(rt;
@@ -110,6 +110,7 @@ fn generated_changes_are_measured(rt: HostRuntime) -> Result<(), Fail> {
             "ok changes 4 operations 11 bytes 285 json 26\n",
             "ok changes 7 operations 20 bytes 379 json 29\n",
             "ok 0\n",
+            "ok changes 0 operations 0 preds 0 links 0 waiting 0 bytes 4 hits 0\n",
         )
     );
     Ok(())

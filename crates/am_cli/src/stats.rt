@@ -1,0 +1,48 @@
+//! The command that tells how much is held.
+ghost use Rattle.std.specs.Prelude.{◌≡◌, length, IfOk};
+ghost use Rattle.am_types.specs.Documents.{table};
+ghost use Rattle.am_doc.specs.Contents.{body};
+ghost use Rattle.am_cli.specs.Stats.{stats_line, stats_text};
+
+use crate::replies::push_number;
+use crate::session::Session;
+use am_frame::next_frame;
+use am_store::{Counts, Store};
+use am_types::Bytes;
+use std::alloc::{AllocError, Global};
+
+// How long the contents of the document are.
+fn contents_length(alloc: Global, store: &Store) -> Result<u64, AllocError>
+    ensures { IfOk result (λ count. count ≡ length (body (table store.now.closed))) }
+{
+    let file = store.save(alloc)?;
+    match next_frame(file.as_slice()) {
+        Ok(frame) => Ok(frame.contents.len() as u64),
+        Err(_) => unreachable!(),
+    }
+}
+
+// The line that tells these numbers.
+fn stats_line(alloc: Global, counts: Counts, bytes: u64, hits: u64) -> Result<Bytes, AllocError>
+    ensures { IfOk result (λ line. line ≡ stats_line counts bytes hits) }
+{
+    let mut line = Bytes::new(alloc);
+    push_number(alloc, &mut line, "ok changes ", counts.changes)?;
+    push_number(alloc, &mut line, " operations ", counts.operations)?;
+    push_number(alloc, &mut line, " preds ", counts.preds)?;
+    push_number(alloc, &mut line, " links ", counts.links)?;
+    push_number(alloc, &mut line, " waiting ", counts.waiting)?;
+    push_number(alloc, &mut line, " bytes ", bytes)?;
+    push_number(alloc, &mut line, " hits ", hits)?;
+    line.push_slice(b"\n")?;
+    Ok(line)
+}
+
+/// How much the store holds, how long its document is, and how often a view was found.
+pub fn tell_stats(alloc: Global, session: &Session) -> Result<Bytes, AllocError>
+    ensures { IfOk result (λ reply. reply ≡ stats_text session.now.kept session.now.views.hits) }
+{
+    let counts = session.store().counts();
+    let bytes = contents_length(alloc, session.store())?;
+    stats_line(alloc, counts, bytes, session.hits())
+}
