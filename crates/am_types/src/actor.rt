@@ -2,29 +2,30 @@
 ghost use Rattle.std.specs.Prelude.{◌≡◌, ◌<◌, ◌↔◌, ◌⊎◌, length, IfOk};
 ghost use Rattle.am_types.specs.Actors.{IsActor};
 
-use crate::bytes::Bytes;
 use crate::known::slice_known;
 use crate::twin::Twin;
 use std::alloc::{AllocError, Global};
 use std::marker::Model;
+use std::rc::RcSlice;
 use thiserror::Error;
 
-/// One who makes changes: 1 to 1,024 bytes, which a contract sees as their list. (Automerge Binary Document
-/// Format, "actor IDs"; the bounds are a choice of amstore's profile.)
+/// One who makes changes: 1 to 1,024 bytes, which a contract sees as their list. A copy shares them. (Automerge Binary
+/// Document Format, "actor IDs"; the bounds are a choice of amstore's profile.)
 #[derive(Debug, Drop)]
 pub struct ActorId {
-    inner: Bytes,
+    shared: RcSlice<u8>,
 }
 
 impl Model for ActorId {
     ghost use Rattle.std.specs.Prelude.{List, ℕ};
+    ghost use Rattle.std.specs.Rc.{rc_slice_items};
     ghost use Rattle.am_types.specs.Actors.{IsActor};
 
     ghost Value = { List ℕ };
 
-    ghost view = { λ a. a.inner };
+    ghost view = { λ a. rc_slice_items a.shared };
 
-    ghost invariant = { λ a. IsActor a.inner };
+    ghost invariant = { λ a. IsActor (rc_slice_items a.shared) };
 }
 
 /// Why no actor was made.
@@ -60,9 +61,8 @@ impl ActorId {
         if bytes.is_empty() || bytes.len() > 1024 {
             return Err(ActorFault::Length);
         }
-        let mut inner = Bytes::new(alloc);
-        inner.push_slice(bytes)?;
-        Ok(ActorId { inner })
+        let shared = RcSlice::from_slice(alloc, bytes)?;
+        Ok(ActorId { shared })
     }
 
     /// The bytes of the actor.
@@ -70,14 +70,14 @@ impl ActorId {
         ensures value { result.now ≡ self.now }
         ensures allowed { IsActor self.now }
     {
-        self.inner.as_slice()
+        self.shared.as_slice()
     }
 }
 
 impl Twin for ActorId {
-    fn copy(&self, alloc: Global) -> Result<ActorId, AllocError> {
-        let inner = self.inner.copy(alloc)?;
-        Ok(ActorId { inner })
+    fn copy(&self, _alloc: Global) -> Result<ActorId, AllocError> {
+        let shared = self.shared.clone()?;
+        Ok(ActorId { shared })
     }
 }
 

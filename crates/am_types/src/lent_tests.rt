@@ -1,7 +1,7 @@
 //! Tests of borrowed forms: they are compared, and copied back.
 use crate::{
-    ActorFault, ActorId, IdRef, KeyRef, ObjId, ObjRef, OpId, ValueRef, compare_objects, same_id,
-    same_key, same_object,
+    ActorFault, ActorId, IdRef, KeyRef, ObjId, ObjRef, OpId, SharedActors, ValueRef,
+    compare_objects, same_id, same_key, same_object,
 };
 use std::alloc::Global;
 
@@ -43,5 +43,21 @@ fn keys_copied_back(rt: HostRuntime) -> Result<(), ActorFault> {
     assert!(rt; !same_key(name.lend(), KeyRef::Head));
     let value = ValueRef { kind: 3, raw: &[1] }.to_owned(rt.alloc())?;
     assert!(rt; value.kind == 3 && value.raw.as_slice() == &[1][..]);
+    Ok(())
+}
+
+#[test]
+fn actors_that_come_again(rt: HostRuntime) -> Result<(), ActorFault> {
+    let alloc = rt.alloc();
+    let mut actors = SharedActors::new(alloc);
+    // Twice through twenty, more than are kept.
+    for i in 0..40u8 {
+        let byte = i % 20;
+        let actor = actors.of(alloc, &[byte, 0xaa])?;
+        assert!(rt; actor.as_slice() == [byte, 0xaa].as_slice());
+        let again = actors.of(alloc, &[byte, 0xaa])?;
+        assert!(rt; actor == again);
+    }
+    assert!(rt; actors.of(alloc, &[]).is_err());
     Ok(())
 }

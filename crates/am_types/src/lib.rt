@@ -14,6 +14,7 @@ mod lent_tests;
 mod list;
 mod owned;
 mod refs;
+mod sharing;
 #[cfg(test)]
 mod tests;
 mod text;
@@ -31,6 +32,7 @@ pub use ids::{Key, ObjId, OpId};
 pub use known::{hash_known, hashes_known, slice_known, str_known};
 pub use list::List;
 pub use refs::{EntryRef, IdRef, KeyRef, ObjRef, ValueRef, compare_ids};
+pub use sharing::SharedActors;
 pub use text::Text;
 pub use twin::Twin;
 pub use value::RawValue;
