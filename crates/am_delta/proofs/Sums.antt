@@ -93,7 +93,7 @@ ends-equal value (Some d) k rest = sums-append value d k rest
 ends-equal value None zero rest = refl
 ends-equal value None (suc k) rest = ap (λ l. None ∷ l) (ends-equal value None k rest)
 
-all_left : (P : Option ℤ → Type 0) (xs ys : List (Option ℤ)) → AllByRecursion P (xs ++ ys) → AllByRecursion P xs × AllByRecursion P ys
+pub all_left : (P : Option ℤ → Type 0) (xs ys : List (Option ℤ)) → AllByRecursion P (xs ++ ys) → AllByRecursion P xs × AllByRecursion P ys
 all_left P [] ys h = (tt, h)
 all_left P (x ∷ xs) ys h = let w = all_left P xs ys h.1 in ((h.0, w.0), w.1)
 
@@ -130,7 +130,7 @@ take_fewer (suc j) (suc k) x (y ∷ list) h e =
     let t : take k list ≡ replicate k x = cc in
     ap (λ l. y ∷ l) (take_fewer j k x list (omega arith) t) ∙ ap (λ z. z ∷ replicate j x) q
 
-fits_last : (value d : ℤ) (j : ℕ) → AllFit (sums_from value (replicate (suc j) (Some d))) → FitsSigned w64 (value +ℤ pos (suc j) *ℤ d)
+pub fits_last : (value d : ℤ) (j : ℕ) → AllFit (sums_from value (replicate (suc j) (Some d))) → FitsSigned w64 (value +ℤ pos (suc j) *ℤ d)
 fits_last value d zero h = subst (FitsSigned w64) (let e : value +ℤ d ≡ value +ℤ pos 1 *ℤ d = omega (arith, ints, way-suc zero d, way-none d) in e) h.0
 fits_last value d (suc j) h = subst (FitsSigned w64) (let e : value +ℤ d +ℤ pos (suc j) *ℤ d ≡ value +ℤ pos (suc (suc j)) *ℤ d = omega (arith, ints, way-suc (suc j) d) in e) (fits_last (value +ℤ d) d j h.1)
 

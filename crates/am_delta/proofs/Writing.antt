@@ -16,7 +16,7 @@ map_push : {A B : Type 0} (f : A → B) (xs : List A) (x : A) → map f (xs ++ x
 map_push f [] x = refl
 map_push f (y ∷ xs) x = ap (λ l. f y ∷ l) (map_push f xs x)
 
-value_back : (d : Option ℤ) → option_map signed_value (option_map leb d) ≡ d
+pub value_back : (d : Option ℤ) → option_map signed_value (option_map leb d) ≡ d
 value_back None = refl
 value_back (Some z) = ap Some (signed_value-leb z)
 
@@ -32,7 +32,7 @@ sums_push sum [] value = one_sum sum value
 sums_push sum (None ∷ ds) value = ap (λ l. None ∷ l) (sums_push sum ds value)
 sums_push sum (Some d ∷ ds) value = ap (λ l. Some (sum +ℤ d) ∷ l) (sums_push (sum +ℤ d) ds value)
 
-last_push : (last : ℤ) (values : List (Option ℤ)) (value : Option ℤ) → last_from last (values ++ value ∷ []) ≡ or_last value (last_from last values)
+pub last_push : (last : ℤ) (values : List (Option ℤ)) (value : Option ℤ) → last_from last (values ++ value ∷ []) ≡ or_last value (last_from last values)
 last_push last [] None = refl
 last_push last [] (Some v) = refl
 last_push last (None ∷ values) value = last_push last values value

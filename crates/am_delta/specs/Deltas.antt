@@ -5,8 +5,9 @@
 --     SpellsDeltas bytes values          they do, or there are no bytes, and all values are null
 --     CanonDeltas bytes values           the bytes are the one canonical spelling of the differences of the values
 --     canonical_delta_bytes values       these bytes
+--     stretch first difference count     so many values, each this difference above the one before it
 --     AllBetween, AllFit, AreMiddling    limits of the values that aren't null
-use Rattle.std.specs.Prelude.{◌≡◌, ◌⊎◌, ℕ, List, [], ◌∷◌, map, Option, Some, None, Bool, true, false, ℤ, pos, neg_ℤ, ◌+ℤ◌, ◌-ℤ◌, ◌*ℤ◌, ◌≤ℤ◌, ◌<ℤ◌, ◌^◌, IfSome, FitsSigned}
+use Rattle.std.specs.Prelude.{◌≡◌, ◌⊎◌, ℕ, List, [], ◌∷◌, map, Option, Some, None, Bool, true, false, ℤ, pos, neg_ℤ, ◌+ℤ◌, ◌-ℤ◌, ◌*ℤ◌, ◌≤ℤ◌, ◌<ℤ◌, ◌^◌, ◌-◌, replicate, IfSome, FitsSigned}
 use Rattle.std.specs.Int.{w64}
 use Rattle.std.specs.Option.{option_map}
 use Rattle.std.specs.List.{AllByRecursion}
@@ -50,6 +51,11 @@ differences_from last [] = []
 differences_from last (None ∷ values) = None ∷ differences_from last values
 differences_from last (Some value ∷ values) = Some (value -ℤ last) ∷ differences_from value values
 
+-- so many values, each this difference above the one before it; behind no value there are none
+abbrev pub stretch : Option ℤ → Option ℤ → ℕ → List (Option ℤ)
+stretch None difference count = replicate count None
+stretch (Some first) difference count = Some first ∷ sums_from first (replicate (count - 1) difference)
+
 -- ---- what a writer holds
 
 -- the last value that isn't null
@@ -61,6 +67,10 @@ last_from last (Some value ∷ values) = last_from value values
 -- above -2^62 and below 2^62, so that differences fit
 abbrev pub IsMiddling : ℤ → Type 0
 IsMiddling z = (neg_ℤ (pos (2 ^ 62)) <ℤ z) × (z <ℤ pos (2 ^ 62))
+
+-- so many values behind these, each this difference above the one before it
+abbrev pub steps : List (Option ℤ) → Option ℤ → ℕ → List (Option ℤ)
+steps values difference count = sums_from (last_from (pos 0) values) (replicate count difference)
 
 abbrev pub less : Option ℤ → ℤ → Option ℤ
 less None last = None

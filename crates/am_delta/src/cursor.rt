@@ -1,11 +1,11 @@
 //! A cursor over the values of a column of deltas. It takes no memory.
-ghost use Rattle.std.specs.Prelude.{◌≡◌, ◌≤◌, ◌∷◌, [], ℤ, List, Option, length, drop, IfOk, IfSome, IfNone, OnErr};
-ghost use Rattle.am_delta.specs.Deltas.{JoinsDeltas, AllBetween};
+ghost use Rattle.std.specs.Prelude.{◌≡◌, ◌<◌, ◌≤◌, ◌++◌, ◌∷◌, [], ℤ, List, Option, None, length, drop, IfOk, IfSome, IfNone, OnErr};
+ghost use Rattle.am_delta.specs.Deltas.{JoinsDeltas, AllBetween, stretch};
 
 use crate::arithmetic::sum_of;
 use crate::between::stays_between;
 use crate::fault::BadDelta;
-use crate::skipping::skipped;
+use crate::skipping::{skipped, value_after};
 use am_runs::SignedCursor;
 use std::marker::Model;
 
@@ -29,6 +29,8 @@ impl<'a> Model for DeltaCursor<'a> {
 }
 
 impl<'a> DeltaCursor<'a> {
+    /// A cursor before the first of the values that the bytes join, nulls among them. `most` bounds how many there may be,
+    /// `low` and `high` each that isn't null; `BadDelta` where the bytes join no such list.
     pub fn over(bytes: &'a [u8], most: u64, low: i64, high: i64) -> Result<Self, BadDelta>
         ensures ok { IfOk result (λ values. JoinsDeltas bytes.now values × (length values ≤ most) × AllBetween low high values) }
         ensures err { OnErr result ((values : List (Option ℤ)) → JoinsDeltas bytes.now values → length values ≤ most → AllBetween low high values → ⊥) }
@@ -48,12 +50,14 @@ impl<'a> DeltaCursor<'a> {
         }
     }
 
+    /// How many values are left.
     pub fn left(&self) -> u64
         ensures { result ≡ length self.now }
     {
         self.differences.left()
     }
 
+    /// The same cursor again.
     pub fn again(&self) -> Self
         ensures { result ≡ self.now }
     {
@@ -63,12 +67,32 @@ impl<'a> DeltaCursor<'a> {
         }
     }
 
+    /// Leaves out the next n values, or all where fewer are left. A run costs one step, however many it has.
     pub fn skip(&mut self, n: u64)
         ensures { self.new ≡ drop n self.old }
     {
         self.value = skipped(&mut self.differences, self.value, n);
     }
 
+    /// The next values, at most so many, where each is as far above the one before it: the first, the difference and how
+    /// many. Nulls come without a difference.
+    pub fn next_stretch(&mut self, most: u64) -> Option<(Option<i64>, Option<i64>, u64)>
+        requires some { 0 < most }
+        ensures end { IfNone result ((self.old ≡ []) × (self.new ≡ [])) }
+        ensures next { IfSome result (λ r. (1 ≤ r.2) × (r.2 ≤ most) × (r.0 ≡ None → r.1 ≡ None) × (self.old ≡ stretch r.0 r.1 r.2 ++ self.new)) }
+    {
+        match self.differences.next_alike_within(most) {
+            None => None,
+            Some((None, count)) => Some((None, None, count)),
+            Some((Some(difference), count)) => {
+                let first = sum_of(self.value, difference);
+                self.value = value_after(first, Some(difference), count - 1);
+                Some((Some(first), Some(difference), count))
+            }
+        }
+    }
+
+    /// The next value, which may be null; nothing at the end.
     pub fn next(&mut self) -> Option<Option<i64>>
         ensures end { IfNone result ((self.old ≡ []) × (self.new ≡ [])) }
         ensures next { IfSome result (λ value. self.old ≡ value ∷ self.new) }

@@ -7,7 +7,7 @@ use crate::arithmetic::times;
 use am_runs::SignedCursor;
 
 /// The sum after k times this difference.
-fn value_after(value: i64, difference: Option<i64>, k: u64) -> i64
+pub fn value_after(value: i64, difference: Option<i64>, k: u64) -> i64
     requires { FitsSigned w64 (sum_after value difference k) }
     ensures { result ≡ sum_after value difference k }
 {

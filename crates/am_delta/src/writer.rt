@@ -1,9 +1,11 @@
 //! A writer of the one canonical spelling.
-ghost use Rattle.std.specs.Prelude.{◌≡◌, ◌<◌, ◌≤◌, ◌∷◌, [], ℕ, ℤ, List, Option, Some, None, length, ◌++◌, ◌^◌, IfOk, IfSome, IfNone, OnOk, OnErr, IsErr, ◌↔◌};
-ghost use Rattle.am_delta.specs.Deltas.{CanonDeltas, IsMiddling, less, or_last, AreMiddling, canonical_delta_bytes};
+ghost use Rattle.std.specs.Prelude.{◌≡◌, ◌<◌, ◌≤◌, ◌∷◌, [], ℕ, ℤ, List, Option, Some, None, length, take, drop, replicate, ◌+◌, ◌++◌, ◌^◌, IfOk, IfSome, IfNone, OnOk, OnErr, IsErr, ◌↔◌};
+ghost use Rattle.am_delta.specs.Deltas.{CanonDeltas, IsMiddling, less, or_last, steps, AreMiddling, canonical_delta_bytes};
 ghost use Rattle.std.specs.Option.{option_map};
 ghost use Rattle.am_leb.specs.Leb.{leb};
 
+use crate::cursor::DeltaCursor;
+use crate::skipping::value_after;
 use am_leb::push_i;
 use am_runs::{RunWriter, SignedItem};
 use am_types::Bytes;
@@ -24,6 +26,26 @@ fn put(
             item.clear();
             push_i(item, difference)?;
             differences.push(Some(item.as_slice()))
+        }
+    }
+}
+
+// Appends the difference so many times.
+fn put_alike(
+    differences: &mut RunWriter<SignedItem>,
+    item: &mut Vec<u8>,
+    difference: Option<i64>,
+    count: u64,
+) -> Result<(), AllocError>
+    requires { IfSome differences.old (λ list. length list + count ≤ 2 ^ 32) }
+    ensures { OnOk result (IfSome differences.old (λ list. differences.new ≡ Some (list ++ replicate count (option_map leb difference)))) }
+{
+    match difference {
+        None => differences.push_alike(None, count),
+        Some(difference) => {
+            item.clear();
+            push_i(item, difference)?;
+            differences.push_alike(Some(item.as_slice()), count)
         }
     }
 }
@@ -70,6 +92,7 @@ impl Model for DeltaWriter {
 }
 
 impl DeltaWriter {
+    /// A writer of no values, which takes its memory from `alloc`.
     pub fn new(alloc: Global) -> Self
         ensures { result ≡ Some [] }
     {
@@ -81,6 +104,7 @@ impl DeltaWriter {
         }
     }
 
+    /// Appends a value. An error says that memory was wanted; the writer is of no use then.
     pub fn push(&mut self, value: Option<i64>) -> Result<(), AllocError>
         requires room { IfSome self.old (λ list. length list < 2 ^ 32) }
         requires value { IfSome value IsMiddling }
@@ -99,6 +123,60 @@ impl DeltaWriter {
         Ok(())
     }
 
+    // Appends so many values, each this difference above the one before it, from the last one on.
+    fn push_steps(&mut self, difference: Option<i64>, count: u64) -> Result<(), AllocError>
+        requires room { IfSome self.old (λ list. length list + count ≤ 2 ^ 32) }
+        requires values { IfSome self.old (λ list. AreMiddling (steps list difference count)) }
+        ensures failed { IfNone self.old ((self.new ≡ None) × IsErr result) }
+        ensures ok { OnOk result (IfSome self.old (λ list. self.new ≡ Some (list ++ steps list difference count))) }
+        ensures err { OnErr result (self.new ≡ None) }
+    {
+        if self.failed {
+            return Err(AllocError);
+        }
+        self.failed = true;
+        put_alike(&mut self.differences, &mut self.item, difference, count)?;
+        self.last = value_after(self.last, difference, count);
+        self.failed = false;
+        Ok(())
+    }
+
+    /// Appends so many nulls, as that many pushes, in a few steps.
+    pub fn push_nulls(&mut self, count: u64) -> Result<(), AllocError>
+        requires room { IfSome self.old (λ list. length list + count ≤ 2 ^ 32) }
+        ensures failed { IfNone self.old ((self.new ≡ None) × IsErr result) }
+        ensures ok { OnOk result (IfSome self.old (λ list. self.new ≡ Some (list ++ replicate count None))) }
+        ensures err { OnErr result (self.new ≡ None) }
+    {
+        self.push_steps(None, count)
+    }
+
+    /// Takes the next n values out of the cursor, as that many pushes. Values that rise alike cost a few steps, however
+    /// many they are.
+    pub fn take(&mut self, from: &mut DeltaCursor<'_>, n: u64) -> Result<(), AllocError>
+        requires room { IfSome self.old (λ list. length list + n ≤ 2 ^ 32) }
+        requires enough { n ≤ length from.old }
+        requires values { AreMiddling from.old }
+        ensures failed { IfNone self.old (self.new ≡ None) }
+        ensures ok { OnOk result (IfSome self.old (λ list. self.new ≡ Some (list ++ take n from.old))) }
+        ensures behind { OnOk result (from.new ≡ drop n from.old) }
+        ensures err { OnErr result (self.new ≡ None) }
+    {
+        let mut left = n;
+        while left > 0 {
+            match from.next_stretch(left) {
+                None => return Ok(()),
+                Some((first, difference, count)) => {
+                    self.push(first)?;
+                    self.push_steps(difference, count - 1)?;
+                    left -= count;
+                }
+            }
+        }
+        Ok(())
+    }
+
+    /// The canonical spelling of what was pushed. An error says that memory was wanted, now or before.
     pub fn finish(self) -> Result<Bytes, AllocError>
         ensures failed { IfNone self (IsErr result) }
         ensures ok { IfOk result (λ bytes. IfSome self (CanonDeltas bytes)) }

@@ -3,14 +3,10 @@ use Rattle.std.proofs.Common.{◌≡◌, ℕ, suc, zero, ◌+◌, ◌^◌, ◌<�
 use Rattle.std.specs.Prelude.{replicate}
 use Rattle.std.specs.Option.{IfSome}
 use Rattle.std.specs.List.{flat_map}
-use Rattle.std.proofs.lemmas.List.{length-replicate, append-nil}
+use Rattle.std.proofs.lemmas.List.{length-replicate, append-nil, replicate-append-replicate}
 use Rattle.am_leb.specs.Leb.{uleb}
 use Rattle.am_flags.specs.Flags.{alternating, OnlyFirstEmpty, LastStands, CanonFlags, AreFalse, CanonMaybe, counts_of, turned, HoldsFlags, flags_written, IsWriting}
 use Rattle.am_flags.proofs.Counts.{counts_of-spelled, numbers_first, counts_append, flat_map-append, long_enough}
-
-replicate-push : (n : ℕ) (x : Bool) → replicate n x ++ x ∷ [] ≡ replicate (n + 1) x
-replicate-push zero x = refl
-replicate-push (suc n) x = ap (λ l. x ∷ l) (replicate-push n x) ∙ ap (λ m. replicate m x) (let e : suc (n + 1) ≡ suc n + 1 = omega arith in e)
 
 turned-push : (flag : Bool) (xs : List ℕ) (k : ℕ) → turned flag (xs ++ k ∷ []) ≡ not (turned flag xs)
 turned-push flag [] k = refl
@@ -32,18 +28,18 @@ stands_push (x ∷ y ∷ xs) k h = stands_push (y ∷ xs) k h
 done_push : (done : List ℕ) (before : List ℕ) (k : ℕ) → done ≡ flat_map uleb before → done ++ uleb k ≡ flat_map uleb (before ++ k ∷ [])
 done_push done before k e = ap (λ d. d ++ uleb k) e ∙ ap (λ s. flat_map uleb before ++ s) (sym (append-nil (uleb k))) ∙ sym (flat_map-append before (k ∷ []))
 
-pub put_same : (done : List ℕ) (flag next : Bool) (count : ℕ) (list : List Bool) → next ≡ flag → HoldsFlags done flag count list → HoldsFlags done next (count + 1) (list ++ next ∷ [])
-put_same done flag next count list e h = subst (λ f. HoldsFlags done f (count + 1) (list ++ f ∷ [])) (sym e)
-    (h.0, h.1, h.2, h.3, inr (omega arith), ap (λ l. l ++ flag ∷ []) h.5 ∙ append_assoc (alternating false h.0) (replicate count flag) (flag ∷ []) ∙ ap (λ l. alternating false h.0 ++ l) (replicate-push count flag))
+pub put_same : (done : List ℕ) (flag next : Bool) (count more : ℕ) (list : List Bool) → next ≡ flag → 1 ≤ more → HoldsFlags done flag count list → HoldsFlags done next (count + more) (list ++ replicate more next)
+put_same done flag next count more list e m h = subst (λ f. HoldsFlags done f (count + more) (list ++ replicate more f)) (sym e)
+    (h.0, h.1, h.2, h.3, inr (omega arith), ap (λ l. l ++ replicate more flag) h.5 ∙ append_assoc (alternating false h.0) (replicate count flag) (replicate more flag) ∙ ap (λ l. alternating false h.0 ++ l) (replicate-append-replicate count more flag))
 
-pub put_turn : (done new : List ℕ) (flag next : Bool) (count : ℕ) (list : List Bool) → next ≡ not flag → count < 2 ^ 64 → new ≡ done ++ uleb count → HoldsFlags done flag count list → HoldsFlags new next 1 (list ++ next ∷ [])
-put_turn done new flag next count list e c n h = (
+pub put_turn : (done new : List ℕ) (flag next : Bool) (count more : ℕ) (list : List Bool) → next ≡ not flag → 1 ≤ more → count < 2 ^ 64 → new ≡ done ++ uleb count → HoldsFlags done flag count list → HoldsFlags new next more (list ++ replicate more next)
+put_turn done new flag next count more list e m c n h = (
   h.0 ++ count ∷ [],
   empty_push h.0 count h.1 c h.4,
   (n ∙ done_push done h.0 count h.2),
   (e ∙ ap not h.3 ∙ sym (turned-push false h.0 count)),
   inr (omega arith),
-  ap (λ l. l ++ next ∷ []) (all_pushed done flag count list h),
+  ap (λ l. l ++ replicate more next) (all_pushed done flag count list h),
 )
   where
     all_pushed : (done : List ℕ) (flag : Bool) (count : ℕ) (list : List Bool) (h : HoldsFlags done flag count list) → list ≡ alternating false (h.0 ++ count ∷ [])
@@ -86,21 +82,21 @@ in_value false list value e v = v
 pub count_within : (failed : Bool) (done : List ℕ) (flag : Bool) (count : ℕ) → failed ≡ false → IsWriting failed done flag count → count ≤ length (flags_written done flag count)
 count_within failed done flag count e w = omega (arith, length-append (alternating false (counts_of done)) (replicate count flag), length-replicate count flag)
 
-pub room_left : (failed : Bool) (done : List ℕ) (flag : Bool) (count : ℕ) (value : Option (List Bool)) → failed ≡ false → IsWriting failed done flag count → cond failed None (Some (flags_written done flag count)) ≡ value → IfSome value (λ list. length list < 2 ^ 32) → count < 2 ^ 32
-room_left failed done flag count value f w e r =
-    let s : length (flags_written done flag count) < 2 ^ 32 = subst (λ v. IfSome v (λ list. length list < 2 ^ 32)) (sym (in_value failed (flags_written done flag count) value f e)) r in
+pub room_left : (failed : Bool) (done : List ℕ) (flag : Bool) (count : ℕ) (value : Option (List Bool)) (more : ℕ) → failed ≡ false → IsWriting failed done flag count → cond failed None (Some (flags_written done flag count)) ≡ value → IfSome value (λ list. length list + more ≤ 2 ^ 32) → count + more ≤ 2 ^ 32
+room_left failed done flag count value more f w e r =
+    let s : length (flags_written done flag count) + more ≤ 2 ^ 32 = subst (λ v. IfSome v (λ list. length list + more ≤ 2 ^ 32)) (sym (in_value failed (flags_written done flag count) value f e)) r in
     omega (arith, s, count_within failed done flag count f w)
 
-pub next_writing : (failed : Bool) (done new : List ℕ) (flag next : Bool) (count now : ℕ) (value : Option (List Bool)) → failed ≡ false → IsWriting failed done flag count → cond failed None (Some (flags_written done flag count)) ≡ value → IfSome value (λ list. length list < 2 ^ 32)
-    → ((list : List Bool) → HoldsFlags done flag count list → HoldsFlags new next now (list ++ next ∷ [])) → now ≤ count + 1
-    → IsWriting false new next now × IfSome value (λ list. Some (flags_written new next now) ≡ Some (list ++ next ∷ []))
-next_writing failed done new flag next count now value f w e r step le =
+pub next_writing : (failed : Bool) (done new : List ℕ) (flag next : Bool) (count now more : ℕ) (value : Option (List Bool)) → failed ≡ false → IsWriting failed done flag count → cond failed None (Some (flags_written done flag count)) ≡ value → IfSome value (λ list. length list + more ≤ 2 ^ 32)
+    → ((list : List Bool) → HoldsFlags done flag count list → HoldsFlags new next now (list ++ replicate more next)) → now ≤ count + more
+    → IsWriting false new next now × IfSome value (λ list. Some (flags_written new next now) ≡ Some (list ++ replicate more next))
+next_writing failed done new flag next count now more value f w e r step le =
     let o = open_writing failed done flag count f w in
     let list = flags_written done flag count in
     let h = step list o.0 in
-    let s = shown new next now (list ++ next ∷ []) h in (
-      (subst (HoldsFlags new next now) (sym s) h, omega (arith, le, room_left failed done flag count value f w e r)),
-      subst (λ v. IfSome v (λ l. Some (flags_written new next now) ≡ Some (l ++ next ∷ []))) (in_value failed list value f e) (ap Some s),
+    let s = shown new next now (list ++ replicate more next) h in (
+      (subst (HoldsFlags new next now) (sym s) h, omega (arith, le, room_left failed done flag count value more f w e r)),
+      subst (λ v. IfSome v (λ l. Some (flags_written new next now) ≡ Some (l ++ replicate more next))) (in_value failed list value f e) (ap Some s),
     )
 
 pub plain_at_end : (failed : Bool) (done : List ℕ) (flag : Bool) (count : ℕ) (value : Option (List Bool)) → failed ≡ false → IsWriting failed done flag count → cond failed None (Some (flags_written done flag count)) ≡ value
@@ -158,3 +154,7 @@ differ r true false i e = refl
 differ r false true i e = refl
 differ r true true i e = absurd (let q = i.1 refl in cc)
 differ r false false i e = absurd (let q = i.1 refl in cc)
+
+pub none_more : (value : Option (List Bool)) (flag : Bool) (count : ℕ) → count ≡ 0 → IfSome value (λ list. value ≡ Some (list ++ replicate count flag))
+none_more None flag count e = tt
+none_more (Some list) flag count e = ap Some (sym (append-nil list) ∙ ap (λ n. list ++ replicate n flag) (sym e))

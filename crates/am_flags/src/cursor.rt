@@ -1,5 +1,5 @@
 //! A cursor over the flags of a column. It takes no memory.
-ghost use Rattle.std.specs.Prelude.{◌≡◌, ◌<◌, ◌≤◌, ◌∷◌, [], ℕ, List, Bool, length, drop, IfOk, IfSome, IfNone, OnErr};
+ghost use Rattle.std.specs.Prelude.{◌≡◌, ◌<◌, ◌≤◌, ◌++◌, ◌∷◌, [], ℕ, List, Bool, length, drop, replicate, IfOk, IfSome, IfNone, OnErr};
 ghost use Rattle.am_flags.specs.Flags.{JoinsFlags};
 
 use crate::count::{number_at, total_of};
@@ -27,6 +27,8 @@ impl<'a> Model for FlagCursor<'a> {
 }
 
 impl<'a> FlagCursor<'a> {
+    /// A cursor before the first of the flags that the bytes join. `most` bounds how many there may be; `BadFlags` where
+    /// the bytes join no such list, or a longer one.
     pub fn over(bytes: &'a [u8], most: u64) -> Result<Self, BadFlags>
         ensures ok { IfOk result (λ flags. JoinsFlags bytes.now flags × (length flags ≤ most)) }
         ensures err { OnErr result ((flags : List Bool) → JoinsFlags bytes.now flags → most < length flags) }
@@ -62,6 +64,7 @@ impl<'a> FlagCursor<'a> {
         }
     }
 
+    /// How many flags are left.
     pub fn left(&self) -> u64
         ensures { result ≡ length self.now }
     {
@@ -87,6 +90,27 @@ impl<'a> FlagCursor<'a> {
         self.left -= n.min(self.left);
     }
 
+    /// The next flag, and how many like it come at once, at most so many: all that its block still has. It costs one step.
+    pub fn next_alike_within(&mut self, most: u64) -> Option<(bool, u64)>
+        requires some { 0 < most }
+        ensures end { IfNone result ((self.old ≡ []) × (self.new ≡ [])) }
+        ensures next { IfSome result (λ r. (1 ≤ r.1) × (r.1 ≤ most) × (self.old ≡ replicate r.1 r.0 ++ self.new)) }
+    {
+        let at = opened(self.at);
+        if at.count == 0 {
+            return None;
+        }
+        let k = at.count.min(most);
+        self.at = Position {
+            flag: at.flag,
+            count: at.count - k,
+            rest: at.rest,
+        };
+        self.left -= k;
+        Some((at.flag, k))
+    }
+
+    /// The next flag; nothing at the end.
     pub fn next(&mut self) -> Option<bool>
         ensures end { IfNone result ((self.old ≡ []) × (self.new ≡ [])) }
         ensures next { IfSome result (λ flag. self.old ≡ flag ∷ self.new) }

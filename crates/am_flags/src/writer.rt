@@ -1,7 +1,8 @@
 //! A writer of the canonical spellings.
-ghost use Rattle.std.specs.Prelude.{◌≡◌, ◌+◌, ◌<◌, ◌≤◌, ◌^◌, ◌++◌, ◌∷◌, [], ℕ, List, Some, None, Bool, length, IfOk, IfSome, IfNone, OnOk, OnErr, IsErr, IsTrue, ◌↔◌};
+ghost use Rattle.std.specs.Prelude.{◌≡◌, ◌+◌, ◌<◌, ◌≤◌, ◌^◌, ◌++◌, ◌∷◌, [], ℕ, List, Some, None, Bool, length, take, drop, replicate, IfOk, IfSome, IfNone, OnOk, OnErr, IsErr, IsTrue, ◌↔◌};
 ghost use Rattle.am_flags.specs.Flags.{CanonFlags, CanonMaybe, canonical_bytes, canonical_maybe_bytes, HoldsFlags};
 
+use crate::cursor::FlagCursor;
 use am_leb::push_u;
 use am_types::Bytes;
 use std::alloc::{AllocError, Global};
@@ -13,16 +14,18 @@ fn is_same(a: bool, b: bool) -> bool
     if a { b } else { !b }
 }
 
-fn put(done: &mut Vec<u8>, count: u64, flag: bool, next: bool) -> Result<u64, AllocError>
-    requires { count < 2 ^ 32 }
-    ensures ok { IfOk result (λ now. (list : List Bool) → HoldsFlags done.old.items flag count list → HoldsFlags done.new.items next now (list ++ next ∷ [])) }
-    ensures size { IfOk result (λ now. now ≤ count + 1) }
+// Behind so many of the flag come some more of the next.
+fn put(done: &mut Vec<u8>, count: u64, flag: bool, next: bool, more: u64) -> Result<u64, AllocError>
+    requires some { 1 ≤ more }
+    requires room { count + more ≤ 2 ^ 32 }
+    ensures ok { IfOk result (λ now. (list : List Bool) → HoldsFlags done.old.items flag count list → HoldsFlags done.new.items next now (list ++ replicate more next)) }
+    ensures size { IfOk result (λ now. now ≤ count + more) }
 {
     if is_same(next, flag) {
-        return Ok(count + 1);
+        return Ok(count + more);
     }
     push_u(done, count)?;
-    Ok(1)
+    Ok(more)
 }
 
 /// Writes the pending count, if there is one.
@@ -38,7 +41,7 @@ fn ended(done: Vec<u8>, count: u64) -> Result<Vec<u8>, AllocError>
     Ok(done)
 }
 
-/// Counts the flags into bytes.
+/// Writes the flags of a column as the lengths of blocks of equal ones. Once memory was wanted, it is wanted from then on.
 #[derive(Drop)]
 pub struct FlagWriter {
     done: Vec<u8>,
@@ -60,6 +63,7 @@ impl Model for FlagWriter {
 }
 
 impl FlagWriter {
+    /// A writer of no flags, which takes its memory from `alloc`.
     pub fn new(alloc: Global) -> Self
         ensures { result ≡ Some [] }
     {
@@ -71,23 +75,61 @@ impl FlagWriter {
         }
     }
 
+    /// Appends a flag. An error says that memory was wanted; the writer is of no use then.
     pub fn push(&mut self, flag: bool) -> Result<(), AllocError>
         requires room { IfSome self.old (λ list. length list < 2 ^ 32) }
         ensures failed { IfNone self.old ((self.new ≡ None) × IsErr result) }
         ensures ok { OnOk result (IfSome self.old (λ list. self.new ≡ Some (list ++ flag ∷ []))) }
         ensures err { OnErr result (self.new ≡ None) }
     {
+        self.push_alike(flag, 1)
+    }
+
+    /// Appends the flag so many times, as that many pushes, in one step.
+    pub fn push_alike(&mut self, flag: bool, count: u64) -> Result<(), AllocError>
+        requires room { IfSome self.old (λ list. length list + count ≤ 2 ^ 32) }
+        ensures failed { IfNone self.old ((self.new ≡ None) × IsErr result) }
+        ensures ok { OnOk result (IfSome self.old (λ list. self.new ≡ Some (list ++ replicate count flag))) }
+        ensures err { OnErr result (self.new ≡ None) }
+    {
         if self.failed {
             return Err(AllocError);
         }
+        if count == 0 {
+            return Ok(());
+        }
         self.failed = true;
-        let count = put(&mut self.done, self.count, self.flag, flag)?;
+        let count = put(&mut self.done, self.count, self.flag, flag, count)?;
         self.count = count;
         self.flag = flag;
         self.failed = false;
         Ok(())
     }
 
+    /// Takes the next n flags out of the cursor, as that many pushes. A block of equal flags costs two steps at most,
+    /// however many it has.
+    pub fn take(&mut self, from: &mut FlagCursor<'_>, n: u64) -> Result<(), AllocError>
+        requires room { IfSome self.old (λ list. length list + n ≤ 2 ^ 32) }
+        requires enough { n ≤ length from.old }
+        ensures failed { IfNone self.old (self.new ≡ None) }
+        ensures ok { OnOk result (IfSome self.old (λ list. self.new ≡ Some (list ++ take n from.old))) }
+        ensures behind { OnOk result (from.new ≡ drop n from.old) }
+        ensures err { OnErr result (self.new ≡ None) }
+    {
+        let mut left = n;
+        while left > 0 {
+            match from.next_alike_within(left) {
+                None => return Ok(()),
+                Some((flag, count)) => {
+                    self.push_alike(flag, count)?;
+                    left -= count;
+                }
+            }
+        }
+        Ok(())
+    }
+
+    /// The canonical spelling, also where all flags are false. An error says that memory was wanted, now or before.
     pub fn finish_plain(self) -> Result<Bytes, AllocError>
         ensures failed { IfNone self (IsErr result) }
         ensures ok { IfOk result (λ bytes. IfSome self (CanonFlags bytes)) }
@@ -98,7 +140,8 @@ impl FlagWriter {
         Ok(Bytes::from(ended(self.done, self.count)?))
     }
 
-    /// No bytes where all flags are false.
+    /// The canonical spelling, which is no bytes where all flags are false. An error says that memory was wanted, now or
+    /// before.
     pub fn finish_maybe(self) -> Result<Bytes, AllocError>
         ensures failed { IfNone self (IsErr result) }
         ensures ok { IfOk result (λ bytes. IfSome self (CanonMaybe bytes)) }

@@ -2,7 +2,7 @@
 use Rattle.std.proofs.Common.{◌≡◌, ℕ, suc, zero, ◌+◌, ◌*◌, ◌%◌, ◌-◌, ◌<◌, ◌≤◌, ◌^◌, List, get_or, [], ◌∷◌, ◌++◌, length, take, drop, map, Option, Some, None, Result, Ok, Err, ℤ, pos, negsuc, refl, sym, ap, ◌∙◌, subst, arith, zero-add}
 use Rattle.std.specs.Prelude.{replicate}
 use Rattle.std.specs.Option.{option_map}
-use Rattle.std.proofs.lemmas.List.{length-drop, take_all}
+use Rattle.std.proofs.lemmas.List.{length-drop, take_all, append_assoc, replicate-append-replicate}
 use Rattle.am_leb.specs.declared.LebFault.{LebFault}
 use Rattle.am_leb.specs.Leb.{unsigned_value, signed_value}
 use Rattle.am_leb.specs.Reading.{first_unsigned, first_signed, low_value}
@@ -286,3 +286,10 @@ drop_copies f n copies v list h = drop_held n copies v (map (option_map f) list)
 
 pub drop_more : {A : Type 0} (f : List ℕ → A) (n copies : ℕ) (v : Option A) (list : List (Option (List ℕ))) → copies ≤ n → map (option_map f) (drop (n - copies) list) ≡ drop n (counted f copies v list)
 drop_more f n copies v list h = map_drop (option_map f) (n - copies) list ∙ drop_past n copies v (map (option_map f) list) h
+
+-- ---- taking some of the copies
+
+pub copies_taken : {A : Type 0} (f : List ℕ → A) (k copies : ℕ) (v : Option A) (list : List (Option (List ℕ))) → k ≤ copies → counted f copies v list ≡ replicate k v ++ counted f (copies - k) v list
+copies_taken f k copies v list h =
+    let all : k + (copies - k) ≡ copies = omega (arith, h) in
+    ap (λ l. l ++ map (option_map f) list) (ap (λ n. replicate n v) (sym all) ∙ sym (replicate-append-replicate k (copies - k) v)) ∙ append_assoc (replicate k v) (replicate (copies - k) v) (map (option_map f) list)

@@ -24,3 +24,4 @@ pub mod LiteralTexts
 pub mod Skimmed
 pub mod Alike
 pub mod Telling
+pub mod Parts

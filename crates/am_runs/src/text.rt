@@ -1,5 +1,5 @@
 //! A cursor over the texts of a column.
-ghost use Rattle.std.specs.Prelude.{◌≡◌, ◌<◌, ◌≤◌, ◌∷◌, [], ℕ, List, Option, length, drop, IfOk, IfSome, IfNone, OnErr};
+ghost use Rattle.std.specs.Prelude.{◌≡◌, ◌<◌, ◌≤◌, ◌++◌, ◌∷◌, [], ℕ, List, Option, length, drop, IfOk, IfSome, IfNone, OnErr, replicate};
 ghost use Rattle.std.specs.Option.{option_copied, option_map};
 ghost use Rattle.am_runs.specs.Items.{IsItem, text_end, text_of};
 ghost use Rattle.am_runs.specs.Typed.{JoinsTexts};
@@ -88,6 +88,23 @@ impl<'a> TextCursor<'a> {
         }
         self.runs.skip(n - self.more);
         self.more = 0;
+    }
+
+    /// The next text, and how many like it come at once, at most so many. A run costs two steps at most.
+    pub fn next_alike_within(&mut self, most: u64) -> Option<(Option<&'a str>, u64)>
+        requires some { 0 < most }
+        ensures end { IfNone result ((self.old ≡ []) × (self.new ≡ [])) }
+        ensures next { IfSome result (λ r. (1 ≤ r.1) × (r.1 ≤ most) × (self.old ≡ replicate r.1 (option_map (λ s. s.now) r.0) ++ self.new)) }
+    {
+        if self.more > 0 {
+            let k = self.more.min(most);
+            self.more -= k;
+            return Some((self.value, k));
+        }
+        match self.next() {
+            None => None,
+            Some(value) => Some((value, 1)),
+        }
     }
 
     /// The next text, which may be null; nothing at the end.

@@ -1,5 +1,5 @@
 //! A cursor over the unsigned numbers of a column.
-ghost use Rattle.std.specs.Prelude.{◌≡◌, ◌<◌, ◌≤◌, ◌∷◌, [], ℕ, List, Option, length, take, drop, IfOk, IfSome, IfNone, OnErr, replicate};
+ghost use Rattle.std.specs.Prelude.{◌≡◌, ◌<◌, ◌≤◌, ◌++◌, ◌∷◌, [], ℕ, List, Option, length, take, drop, IfOk, IfSome, IfNone, OnErr, replicate};
 ghost use Rattle.am_runs.specs.Items.{unsigned_end};
 ghost use Rattle.am_runs.specs.Typed.{AllItems, JoinsUnsigned, unsigned_numbers};
 
@@ -99,6 +99,24 @@ impl<'a> UnsignedCursor<'a> {
         match runs_from::<UnsignedItem>(&self.at).like() {
             None => None,
             Some((entry, k)) => Some((number_of::<UnsignedItem>(entry), k)),
+        }
+    }
+
+    /// The next value, and how many like it come at once, at most so many. A run costs two steps at most.
+    #[inline(always)]
+    pub fn next_alike_within(&mut self, most: u64) -> Option<(Option<u64>, u64)>
+        requires some { 0 < most }
+        ensures end { IfNone result ((self.old ≡ []) × (self.new ≡ [])) }
+        ensures next { IfSome result (λ r. (1 ≤ r.1) × (r.1 ≤ most) × (self.old ≡ replicate r.1 r.0 ++ self.new)) }
+    {
+        if self.at.copies > 0 {
+            let k = self.at.copies.min(most);
+            self.at.copies -= k;
+            return Some((self.value, k));
+        }
+        match self.next() {
+            None => None,
+            Some(value) => Some((value, 1)),
         }
     }
 

@@ -54,7 +54,7 @@ cut_many (suc (suc j)) k x list raw rest g h o e c r =
 
 -- ---- what the cursor shows is spelled
 
-metadata-value : (m : ℕ) (raw : List ℕ) → m / 16 ≤ length raw → metadata (record { kind = m % 16; raw = take (m / 16) raw }) ≡ m
+pub metadata-value : (m : ℕ) (raw : List ℕ) → m / 16 ≤ length raw → metadata (record { kind = m % 16; raw = take (m / 16) raw }) ≡ m
 metadata-value m raw h = omega (arith, length-take-le (m / 16) raw h)
 
 metadata-values : (meta : List (Option ℕ)) (raw : List ℕ) → AreCut meta raw → map (option_map metadata) (values_from meta raw) ≡ meta

@@ -3,10 +3,11 @@
 --
 --     HasNumber kind                   values of the kind have a number
 --     metadata value                   the number that tells the kind and the length of a value
+--     given values                     the values, of which a null reads as the null value
 --     JoinsValues numbers raw values   the two columns spell the values, in any way of runs
 --     CanonValues numbers raw values   the two columns are the canonical ones of the values
 --     canonical_numbers values, joined values     those columns
-use Rattle.std.specs.Prelude.{◌≡◌, ℕ, ◌+◌, ◌*◌, ◌⊎◌, List, [], length, map, Option, Some, None, IfSome}
+use Rattle.std.specs.Prelude.{◌≡◌, ℕ, ◌+◌, ◌*◌, ◌⊎◌, List, [], length, map, Option, Some, None, IfSome, unwrap_or}
 use Rattle.std.specs.Option.{option_map}
 use Rattle.std.specs.List.{flat_map, AllByRecursion}
 use Rattle.am_leb.specs.Leb.{uleb}
@@ -23,6 +24,14 @@ HasNumber kind = (kind ≡ 3) ⊎ (kind ≡ 4) ⊎ (kind ≡ 8) ⊎ (kind ≡ 9)
 -- The low four bits are the kind, and the rest is the length.
 abbrev pub metadata : RawValue → ℕ
 metadata value = value.kind + 16 * length value.raw
+
+-- the value of kind null, which has no bytes
+abbrev pub null_value : RawValue
+null_value = record { kind = 0; raw = [] }
+
+-- the values, of which a null reads as the null value
+abbrev pub given : List (Option RawValue) → List RawValue
+given values = map (λ value. unwrap_or value null_value) values
 
 -- a null has no bytes
 abbrev pub raw_of : Option RawValue → List ℕ

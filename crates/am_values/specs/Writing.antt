@@ -1,10 +1,15 @@
--- What a writer of values holds.
-use Rattle.std.specs.Prelude.{◌≡◌, ℕ, ◌/◌, List, [], ◌∷◌, drop, Bool, true, false, Option, Some, None}
+-- What a writer of values holds, and what it takes out of columns.
+use Rattle.std.specs.Prelude.{◌≡◌, ℕ, ◌/◌, List, [], ◌∷◌, drop, Bool, true, false, Option, Some, None, unwrap_or}
+use Rattle.am_leb.specs.Leb.{uleb}
 use Rattle.std.specs.Option.{option_map}
 use Rattle.am_types.specs.declared.RawValue.{RawValue}
 use Rattle.am_runs.specs.Typed.{unsigned_numbers}
 use Rattle.am_values.specs.Columns.{AllGood, spellings, joined}
 use Rattle.am_values.specs.Cutting.{value_from}
+
+-- the spelling of a number, of which a null is the number of the null value
+abbrev pub spelled : Option ℕ → Option (List ℕ)
+spelled number = Some (uleb (unwrap_or number 0))
 
 -- the values of the numbers that are not null
 abbrev pub values_in : List (Option ℕ) → List ℕ → List RawValue

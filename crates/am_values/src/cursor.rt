@@ -1,14 +1,16 @@
 //! A cursor over the values of two columns.
-ghost use Rattle.std.specs.Prelude.{◌≡◌, ◌<◌, ◌≤◌, ◌∷◌, [], List, Option, length, drop, IfOk, IfSome, IfNone, OnErr};
+ghost use Rattle.std.specs.Prelude.{◌≡◌, ◌<◌, ◌≤◌, ◌+◌, ◌^◌, ◌++◌, ◌∷◌, [], List, Option, Some, length, take, drop, IfOk, IfSome, IfNone, OnOk, OnErr};
 ghost use Rattle.std.specs.Option.{option_map};
 ghost use Rattle.am_types.specs.declared.RawValue.{RawValue};
 ghost use Rattle.am_types.specs.Views.{value_of};
-ghost use Rattle.am_values.specs.Columns.{JoinsValues};
+ghost use Rattle.am_values.specs.Columns.{JoinsValues, AllGood, given, joined, spellings};
 
 use crate::cutting::{are_cut, cut, skipped};
 use crate::fault::BadValue;
-use am_runs::UnsignedCursor;
+use crate::taking::taken;
+use am_runs::{RunWriter, UnsignedCursor, UnsignedItem};
 use am_types::ValueRef;
+use std::alloc::AllocError;
 use std::marker::Model;
 
 /// The values of two columns, one after another. A contract sees those that are left.
@@ -73,6 +75,28 @@ impl<'a> ValueCursor<'a> {
         ensures { self.new ≡ drop n self.old }
     {
         self.raw = skipped(&mut self.numbers, self.raw, n);
+    }
+
+    // Appends the numbers of the next n values, by runs, and gives their raw bytes in one piece.
+    pub(crate) fn give(
+        &mut self,
+        n: u64,
+        numbers: &mut RunWriter<UnsignedItem>,
+        item: &mut Vec<u8>,
+    ) -> Result<&'a [u8], AllocError>
+        requires enough { n ≤ length self.old }
+        requires room { IfSome numbers.old (λ list. length list + n ≤ 2 ^ 32) }
+        ensures numbers { OnOk result (IfSome numbers.old (λ list. numbers.new ≡ Some (list ++ spellings (given (take n self.old))))) }
+        ensures raw { IfOk result (λ raw. raw.now ≡ joined (given (take n self.old))) }
+        ensures good { AllGood (given (take n self.old)) }
+        ensures behind { OnOk result (self.new ≡ drop n self.old) }
+    {
+        let raw = self.raw;
+        let mut behind = self.numbers.again();
+        let rest = taken(&mut behind, raw, n, numbers, item)?;
+        self.numbers = behind;
+        self.raw = rest;
+        Ok(cut((raw.len() - rest.len()) as u64, raw).0)
     }
 
     /// The next value, or null as the inner None. At the end it stays there.

@@ -68,7 +68,7 @@ pub fn are_cut(mut numbers: UnsignedCursor<'_>, raw: &[u8]) -> bool
 }
 
 // The raw bytes behind the next values, which are as long as one another.
-fn past<'a>(number: Option<u64>, count: u64, raw: &'a [u8]) -> &'a [u8]
+pub fn past<'a>(number: Option<u64>, count: u64, raw: &'a [u8]) -> &'a [u8]
     requires fits { count * width number ≤ length raw.now }
     ensures behind { result.now ≡ drop (count * width number) raw.now }
 {

@@ -1,11 +1,11 @@
 //! Writing the columns of values.
-ghost use Rattle.std.specs.Prelude.{◌≡◌, ◌<◌, ◌^◌, ◌++◌, ◌∷◌, [], Some, None, length, IfOk, IfSome, IfNone, OnOk, OnErr, IsErr};
-ghost use Rattle.am_leb.specs.Leb.{uleb};
+ghost use Rattle.std.specs.Prelude.{◌≡◌, ◌+◌, ◌<◌, ◌≤◌, ◌^◌, ◌++◌, ◌∷◌, [], Some, None, length, take, drop, replicate, IfOk, IfSome, IfNone, OnOk, OnErr, IsErr};
 ghost use Rattle.am_types.specs.Values.{Good};
 ghost use Rattle.am_types.specs.Views.{value_of};
-ghost use Rattle.am_values.specs.Columns.{metadata, CanonValues};
+ghost use Rattle.am_values.specs.Columns.{metadata, null_value, given, CanonValues};
 
-use am_leb::push_u;
+use crate::cursor::ValueCursor;
+use crate::taking::put_alike;
 use am_runs::{RunWriter, UnsignedItem};
 use am_types::{Bytes, ValueRef};
 use std::alloc::{AllocError, Global};
@@ -17,20 +17,6 @@ fn metadata_of(value: ValueRef<'_>) -> u64
     ensures { result ≡ metadata (value_of value.entry) }
 {
     u64::from(value.kind) + 16 * value.raw.len() as u64
-}
-
-// Appends a number to the column of numbers, by way of its spelling.
-fn put(
-    numbers: &mut RunWriter<UnsignedItem>,
-    item: &mut Vec<u8>,
-    number: u64,
-) -> Result<(), AllocError>
-    requires { IfSome numbers.old (λ list. length list < 2 ^ 32) }
-    ensures { OnOk result (IfSome numbers.old (λ list. numbers.new ≡ Some (list ++ Some (uleb number) ∷ []))) }
-{
-    item.clear();
-    push_u(item, number)?;
-    numbers.push(Some(item.as_slice()))
 }
 
 /// Writes values into their two columns. A contract sees the values that were pushed, or None once memory was wanted: it
@@ -81,8 +67,44 @@ impl ValueWriter {
             return Err(AllocError);
         }
         self.failed = true;
-        put(&mut self.numbers, &mut self.item, metadata_of(value))?;
+        put_alike(&mut self.numbers, &mut self.item, metadata_of(value), 1)?;
         self.raw.extend_from_slice(value.raw)?;
+        self.failed = false;
+        Ok(())
+    }
+
+    /// Appends the null value so many times, as that many pushes, in a few steps.
+    pub fn push_nulls(&mut self, count: u64) -> Result<(), AllocError>
+        requires room { IfSome self.old (λ values. length values + count ≤ 2 ^ 32) }
+        ensures failed { IfNone self.old ((self.new ≡ None) × IsErr result) }
+        ensures ok { OnOk result (IfSome self.old (λ values. self.new ≡ Some (values ++ replicate count null_value))) }
+        ensures err { OnErr result (self.new ≡ None) }
+    {
+        if self.failed {
+            return Err(AllocError);
+        }
+        self.failed = true;
+        put_alike(&mut self.numbers, &mut self.item, 0, count)?;
+        self.failed = false;
+        Ok(())
+    }
+
+    /// Takes the next n values out of the cursor, as that many pushes, of which a null is one of the null value. The
+    /// numbers go by runs, and the raw bytes in one piece.
+    pub fn take(&mut self, from: &mut ValueCursor<'_>, n: u64) -> Result<(), AllocError>
+        requires room { IfSome self.old (λ values. length values + n ≤ 2 ^ 32) }
+        requires enough { n ≤ length from.old }
+        ensures failed { IfNone self.old ((self.new ≡ None) × IsErr result) }
+        ensures ok { OnOk result (IfSome self.old (λ values. self.new ≡ Some (values ++ given (take n from.old)))) }
+        ensures behind { OnOk result (from.new ≡ drop n from.old) }
+        ensures err { OnErr result (self.new ≡ None) }
+    {
+        if self.failed {
+            return Err(AllocError);
+        }
+        self.failed = true;
+        let raw = from.give(n, &mut self.numbers, &mut self.item)?;
+        self.raw.extend_from_slice(raw)?;
         self.failed = false;
         Ok(())
     }
