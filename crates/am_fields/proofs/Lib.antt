@@ -5,6 +5,8 @@ pub mod Bounds
 pub mod Lists
 pub mod Zips
 pub mod Readings
+pub mod Moves
+pub mod Copies
 pub mod IdLaws
 pub mod GroupLaws
 pub mod OneReading

@@ -28,7 +28,10 @@ map-next f xs x = map-append f xs (x ∷ [])
 pub map2-next : {X A B : Type 0} (g : A → B) (f : X → A) (xs : List X) (x : X) → map g (map f (xs ++ x ∷ [])) ≡ map g (map f xs) ++ g (f x) ∷ []
 map2-next g f xs x = ap (map g) (map-next f xs x) ∙ map-append g (map f xs) (f x ∷ [])
 
-flat-append : {A : Type 0} (xs ys : List (List A)) → flat (xs ++ ys) ≡ flat xs ++ flat ys
+pub map2-append : {X A B : Type 0} (g : A → B) (f : X → A) (xs ys : List X) → map g (map f (xs ++ ys)) ≡ map g (map f xs) ++ map g (map f ys)
+map2-append g f xs ys = ap (map g) (map-append f xs ys) ∙ map-append g (map f xs) (map f ys)
+
+pub flat-append : {A : Type 0} (xs ys : List (List A)) → flat (xs ++ ys) ≡ flat xs ++ flat ys
 flat-append [] ys = refl
 flat-append (x ∷ xs) ys = ap (λ zs. x ++ zs) (flat-append xs ys) ∙ sym (append_assoc x (flat xs) (flat ys))
 

@@ -12,3 +12,5 @@ pub mod Wholes
 pub mod Spelling
 pub mod Held
 pub mod Rooms
+pub mod Moving
+pub mod Front

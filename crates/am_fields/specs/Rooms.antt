@@ -1,5 +1,5 @@
--- The writers of several columns have room for one more.
-use Rattle.std.specs.Prelude.{◌<◌, ◌≤◌, ◌^◌, List, length, Option, IfSome}
+-- The writers of several columns have room for one more, or for n more.
+use Rattle.std.specs.Prelude.{ℕ, ◌+◌, ◌<◌, ◌≤◌, ◌^◌, List, length, Option, IfSome}
 use Rattle.am_fields.specs.declared.field_writer.FieldWriter.{FieldWriter}
 
 -- fewer than 2 ^ 32 items were written
@@ -17,6 +17,22 @@ pub record FieldsHaveRoom (w : FieldWriter) : Type 0 where
   pub value : IsOpen w.value
   pub expand : IsOpen w.expand
   pub mark : IsOpen w.mark
+
+-- with n more, at most 2 ^ 32 items were written
+abbrev pub IsOpenFor : {A : Type 0} → ℕ → Option (List A) → Type 0
+IsOpenFor n items = IfSome items (λ xs. length xs + n ≤ 2 ^ 32)
+
+pub record FieldsHaveRoomFor (n : ℕ) (w : FieldWriter) : Type 0 where
+  pub object_actor : IsOpenFor n w.object_actor
+  pub object_counter : IsOpenFor n w.object_counter
+  pub key_actor : IsOpenFor n w.key_actor
+  pub key_counter : IsOpenFor n w.key_counter
+  pub key_name : IsOpenFor n w.key_name
+  pub insert : IsOpenFor n w.insert
+  pub action : IsOpenFor n w.action
+  pub value : IsOpenFor n w.value
+  pub expand : IsOpenFor n w.expand
+  pub mark : IsOpenFor n w.mark
 
 -- at most 2 ^ 32 items were written
 abbrev pub IsShort : {A : Type 0} → Option (List A) → Type 0

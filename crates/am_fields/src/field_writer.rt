@@ -1,5 +1,6 @@
 //! Writing the fields that operations and rows have in common.
 
+use crate::field_columns::FieldColumns;
 use crate::number_writer::NumberWriter;
 use crate::places::{key_counter, key_name, key_place, object_counter, object_place};
 use crate::text_writer::TextWriter;
@@ -58,7 +59,8 @@ impl FieldWriter {
     ghost use Rattle.am_types.specs.Values.{Good};
     ghost use Rattle.am_types.specs.Views.{key_of, value_of};
     ghost use Rattle.am_fields.specs.Held.{FieldLists, FieldsHeld, FieldsFit, FieldsSpelled, with_fields};
-    ghost use Rattle.am_fields.specs.Rooms.{FieldsHaveRoom, AreShort};
+    ghost use Rattle.am_fields.specs.Front.{with_first, HaveFields, AreBehind};
+    ghost use Rattle.am_fields.specs.Rooms.{FieldsHaveRoom, FieldsHaveRoomFor, AreShort};
 
     /// No fields.
     pub fn new(alloc: Global) -> Self
@@ -95,6 +97,34 @@ impl FieldWriter {
         self.value.push(fields.value)?;
         self.expand.push(fields.expand)?;
         self.mark.push(fields.mark)
+    }
+
+    /// Takes the fields of the next n out of their columns, as that many pushes, by runs. The places of actors are those
+    /// among these actors.
+    pub fn take(
+        &mut self,
+        actors: &[ActorId],
+        from: &mut FieldColumns<'_>,
+        n: u64,
+    ) -> Result<(), AllocError>
+        requires room { FieldsHaveRoomFor n self.old }
+        requires enough { HaveFields n from.old }
+        ensures fields { OnOk result ((x : FieldLists) → FieldsHeld actors.now x self.old → FieldsHeld actors.now (with_first x n from.old) self.new) }
+        ensures behind { OnOk result (AreBehind n from.old from.new) }
+    {
+        from.objects.copy_to(&mut self.object_actor, &mut self.object_counter, actors, n)?;
+        from.keys.copy_to(
+            &mut self.key_actor,
+            &mut self.key_counter,
+            &mut self.key_name,
+            actors,
+            n,
+        )?;
+        from.inserts.copy_to(&mut self.insert, n)?;
+        from.actions.copy_to(&mut self.action, n)?;
+        from.values.copy_to(&mut self.value, n)?;
+        from.expands.copy_to(&mut self.expand, n)?;
+        self.mark.take(&mut from.marks, n)
     }
 
     /// The columns, each in its one canonical spelling: those of flags that are always listed with runs of both values,

@@ -5,6 +5,7 @@ ghost use Rattle.am_types.specs.Views.{id_of};
 ghost use Rattle.am_fields.specs.Columns.{place_of};
 ghost use Rattle.am_fields.specs.Layout.{id_actor, id_counter};
 
+use crate::ids::IdColumns;
 use crate::number_writer::NumberWriter;
 use crate::places::place_in;
 use am_delta::DeltaWriter;
@@ -56,7 +57,7 @@ fn push_ids(
 }
 
 impl IdWriter {
-    ghost use Rattle.std.specs.Prelude.{◌+◌, ◌≤◌, ◌++◌, ◌∷◌, ◌^◌, [], List, ℕ, All, length, IfOk, IfSome, OnOk};
+    ghost use Rattle.std.specs.Prelude.{◌≡◌, ◌+◌, ◌≤◌, ◌++◌, ◌∷◌, ◌^◌, [], List, ℕ, All, length, take, drop, IfOk, IfSome, OnOk};
     ghost use Rattle.am_types.specs.declared.OpId.{OpId};
     ghost use Rattle.am_types.specs.Fine.{IsId};
     ghost use Rattle.am_types.specs.Views.{id_of};
@@ -91,6 +92,23 @@ impl IdWriter {
         ensures { OnOk result ((before : List OpId) → IdsHeld actors.now before self.old → IdsHeld actors.now (before ++ ids.now) self.new) }
     {
         push_ids(&mut self.places, &mut self.counters, actors, ids)
+    }
+
+    /// Takes the next n ids out of the columns, as that many pushes, by runs. The place of an actor is that among these
+    /// actors.
+    pub fn take(
+        &mut self,
+        actors: &[ActorId],
+        from: &mut IdColumns<'_>,
+        n: u64,
+    ) -> Result<(), AllocError>
+        requires places { IfSome self.old.places (λ xs. length xs + n ≤ 2 ^ 32) }
+        requires counters { IfSome self.old.counters (λ xs. length xs + n ≤ 2 ^ 32) }
+        requires enough { n ≤ length from.old }
+        ensures ids { OnOk result ((ids : List OpId) → IdsHeld actors.now ids self.old → IdsHeld actors.now (ids ++ take n from.old) self.new) }
+        ensures behind { OnOk result (from.new ≡ drop n from.old) }
+    {
+        from.copy_to(&mut self.places, &mut self.counters, actors, n)
     }
 
     /// The column of places and that of counters, each in its one canonical spelling.

@@ -1,0 +1,148 @@
+-- Places of one list of actors, written as those of another, and the numbers beside them.
+use Rattle.std.proofs.Common.{◌≡◌, ℕ, zero, suc, ◌-◌, ◌≤◌, ◌^◌, List, [], ◌∷◌, ◌++◌, length, map, take, drop, Option, Some, None, refl, sym, ap, ◌∙◌, subst, arith, slice_get}
+use Rattle.std.specs.Prelude.{replicate, IfSome, ℤ, pos}
+use Rattle.std.specs.Option.{option_map}
+use Rattle.std.specs.List.{AllByRecursion, zip}
+use Rattle.std.proofs.lemmas.Int.{ints}
+use Rattle.std.proofs.lemmas.List.{length-map, length-drop, length-take-le}
+use Rattle.am_types.specs.declared.Key.{Key}
+use Rattle.am_runs.proofs.Spelled.{map_take, map_drop}
+use Rattle.am_runs.proofs.Taken.{map_taken}
+use Rattle.am_delta.specs.Deltas.{AllBetween, AreMiddling}
+use Rattle.am_delta.proofs.Steps.{between_middling}
+use Rattle.am_fields.specs.Columns.{Name, place_of}
+use Rattle.am_fields.specs.Layout.{key_actor, key_counter, key_string}
+use Rattle.am_fields.specs.Limits.{IsKeyWithin}
+use Rattle.am_fields.specs.Fields.{key_read}
+use Rattle.am_fields.specs.Moving.{moved}
+use Rattle.am_fields.specs.Reading.{readings, AllRead}
+use Rattle.am_fields.proofs.Readings.{IsReading, reads_from, length-readings, readings-drop, AllRead-drop}
+use Rattle.am_fields.proofs.IdLaws.{keys_read, keys_between, key_numbers}
+use Rattle.am_fields.proofs.Zips.{zip_first, zip_second, map-map, map-id}
+
+-- ---- by runs
+
+pub moved_part : {A B : Type 0} (f : A → B) (k : ℕ) (x : A) (from new : List A) → from ≡ replicate k x ++ new → map f from ≡ replicate k (f x) ++ map f new
+moved_part f k x from new e = ap (map f) e ∙ map_taken f k x new
+
+pub moved_behind : {A B : Type 0} (f : A → B) (m : ℕ) (whole from : List A) → from ≡ drop m whole → map f from ≡ drop m (map f whole)
+moved_behind f m whole from e = ap (map f) e ∙ map_drop f m whole
+
+pub as_moved : {A : Type 0} (self new : Option (List A)) (k : ℕ) (x y : A) → x ≡ y → IfSome self (λ items. new ≡ Some (items ++ replicate k x)) → IfSome self (λ items. new ≡ Some (items ++ replicate k y))
+as_moved self new k x y e h = subst (λ z. IfSome self (λ items. new ≡ Some (items ++ replicate k z))) e h
+
+-- ---- places that name actors
+
+moved_one : (known actors : List (List ℕ)) (x : Option ℕ) (name : Option (List ℕ)) → option_map (slice_get known) x ≡ option_map Some name → moved known actors x ≡ option_map (place_of actors) name
+moved_one known actors None None e = refl
+moved_one known actors None (Some a) e = absurd (cc)
+moved_one known actors (Some p) None e = absurd (cc)
+moved_one known actors (Some p) (Some a) e = let there : slice_get known p ≡ Some a = cc in ap (option_map (place_of actors)) there
+
+moved_names : (known actors : List (List ℕ)) (xs : List (Option ℕ)) (names : List (Option (List ℕ))) → Name known xs names → map (moved known actors) xs ≡ map (option_map (place_of actors)) names
+moved_names known actors [] [] e = refl
+moved_names known actors [] (a ∷ names) e = absurd (cc)
+moved_names known actors (x ∷ xs) [] e = absurd (cc)
+moved_names known actors (x ∷ xs) (a ∷ names) e =
+    let here : option_map (slice_get known) x ≡ option_map Some a = cc in
+    let more : Name known xs names = cc in
+    ap (λ z. z ∷ map (moved known actors) xs) (moved_one known actors x a here) ∙ ap (λ l. option_map (place_of actors) a ∷ l) (moved_names known actors xs names more)
+
+pub moved_first : {C : Type 0} (known actors : List (List ℕ)) (actor : C → Option (List ℕ)) (n : ℕ) (xs : List (Option ℕ)) (cs : List C) → Name known xs (map actor cs) → take n (map (moved known actors) xs) ≡ map (option_map (place_of actors)) (map actor (take n cs))
+moved_first known actors actor n xs cs e =
+    ap (take n) (moved_names known actors xs (map actor cs) e) ∙ sym (map_take (option_map (place_of actors)) n (map actor cs)) ∙ ap (map (option_map (place_of actors))) (sym (map_take actor n cs))
+
+pub first_of : {B C : Type 0} (number : C → B) (n : ℕ) (ys : List B) (cs : List C) → ys ≡ map number cs → take n ys ≡ map number (take n cs)
+first_of number n ys cs e = ap (take n) e ∙ sym (map_take number n cs)
+
+pub written_as : {A : Type 0} (old new : Option (List A)) (xs ys : List A) → xs ≡ ys → IfSome old (λ l. new ≡ Some (l ++ xs)) → IfSome old (λ l. new ≡ Some (l ++ ys))
+written_as old new xs ys e h = subst (λ z. IfSome old (λ l. new ≡ Some (l ++ z))) e h
+
+pub counters_middling : (values : List (Option ℤ)) → AllBetween (pos 0) (pos (2 ^ 53 - 1)) values → AreMiddling values
+counters_middling values b = between_middling (pos 0) (pos (2 ^ 53 - 1)) values (omega (arith, ints), omega (arith, ints)) (omega (arith, ints), omega (arith, ints)) b
+
+-- ---- columns that are read together
+
+-- the columns behind, and what was written of those in front
+pub record AreMoved {B C : Type 0} (known actors : List (List ℕ)) (read : Option ℕ → B → Option C) (actor : C → Option (List ℕ)) (number : C → B) (n : ℕ) (xs xs' : List (Option ℕ)) (ys ys' : List B) (shown : List C) : Type 0 where
+  pub places : take n (map (moved known actors) xs) ≡ map (option_map (place_of actors)) (map actor (take n shown))
+  pub numbers : take n ys ≡ map number (take n shown)
+  pub all : AllRead read xs' ys'
+  pub behind : readings read xs' ys' ≡ drop n shown
+
+pub are_moved : {B C : Type 0} (known actors : List (List ℕ)) (read : Option ℕ → B → Option C) (actor : C → Option (List ℕ)) (number : C → B) (Within : C → Type 0) → IsReading known read actor number Within → (n : ℕ) (xs xs' : List (Option ℕ)) (ys ys' : List B) (shown : List C)
+    → AllRead read xs ys → readings read xs ys ≡ shown → xs' ≡ drop n xs → ys' ≡ drop n ys → AreMoved known actors read actor number n xs xs' ys ys' shown
+are_moved known actors read actor number Within reading n xs xs' ys ys' shown all e p q =
+    let from = reads_from known read actor number Within reading xs ys all in
+    let rest : AllRead read (drop n xs) (drop n ys) = AllRead-drop read n xs ys all in
+    record {
+      places = moved_first known actors actor n xs (readings read xs ys) from.names ∙ ap (λ cs. map (option_map (place_of actors)) (map actor (take n cs))) e;
+      numbers = first_of number n ys (readings read xs ys) from.numbers ∙ ap (λ cs. map number (take n cs)) e;
+      all = subst (λ l. AllRead read l ys') (sym p) (subst (AllRead read (drop n xs)) (sym q) rest);
+      behind = ap (λ l. readings read l ys') p ∙ ap (readings read (drop n xs)) q ∙ readings-drop read n xs ys all ∙ ap (drop n) e;
+    }
+
+-- ---- keys, of which two columns stand beside the places
+
+zip_drop : {A B : Type 0} (n : ℕ) (ys : List A) (zs : List B) → length ys ≡ length zs → zip (drop n ys) (drop n zs) ≡ drop n (zip ys zs)
+zip_drop zero ys zs e = refl
+zip_drop (suc n) [] [] e = refl
+zip_drop (suc n) [] (z ∷ zs) e = absurd (omega arith)
+zip_drop (suc n) (y ∷ ys) [] e = absurd (omega arith)
+zip_drop (suc n) (y ∷ ys) (z ∷ zs) e = zip_drop n ys zs (omega arith)
+
+pub record AreKeys (xs : List (Option ℕ)) (ys : List (Option ℤ)) (zs : List (Option (List ℕ))) (shown : List Key) : Type 0 where
+  pub few : length xs ≡ length shown
+  pub few_counters : length ys ≡ length shown
+  pub few_names : length zs ≡ length shown
+  pub counters : ys ≡ map key_counter shown
+  pub names : zs ≡ map key_string shown
+  pub middling : AreMiddling ys
+
+pub key_lists : (known : List (List ℕ)) (xs : List (Option ℕ)) (ys : List (Option ℤ)) (zs : List (Option (List ℕ))) (shown : List Key) → AllRead (key_read known) xs (zip ys zs) → length ys ≡ length zs → readings (key_read known) xs (zip ys zs) ≡ shown → AreKeys xs ys zs shown
+key_lists known xs ys zs shown all same e =
+    let from = reads_from known (key_read known) key_actor key_numbers IsKeyWithin (keys_read known) xs (zip ys zs) all in
+    let pairs : zip ys zs ≡ map key_numbers shown = from.numbers ∙ ap (map key_numbers) e in
+    let counters : ys ≡ map key_counter shown = sym (zip_first (λ y. y) ys zs same ∙ map-id ys) ∙ ap (map (λ p. p.0)) pairs ∙ map-map (λ p. p.0) key_numbers shown in
+    let names : zs ≡ map key_string shown = sym (zip_second (λ z. z) ys zs same ∙ map-id zs) ∙ ap (map (λ p. p.1)) pairs ∙ map-map (λ p. p.1) key_numbers shown in
+    let few : length xs ≡ length shown = sym (length-readings (key_read known) xs (zip ys zs) all) ∙ ap length e in
+    let within : AllByRecursion IsKeyWithin shown = subst (λ cs. AllByRecursion IsKeyWithin cs) e from.within in
+    record {
+      few = few;
+      few_counters = ap length counters ∙ length-map shown key_counter;
+      few_names = ap length names ∙ length-map shown key_string;
+      counters = counters;
+      names = names;
+      middling = subst AreMiddling (sym counters) (counters_middling _ (keys_between shown within));
+    }
+
+pub record KeysMoved (known actors : List (List ℕ)) (n : ℕ) (xs xs' : List (Option ℕ)) (ys ys' : List (Option ℤ)) (zs zs' : List (Option (List ℕ))) (shown : List Key) : Type 0 where
+  pub places : take n (map (moved known actors) xs) ≡ map (option_map (place_of actors)) (map key_actor (take n shown))
+  pub counters : take n ys ≡ map key_counter (take n shown)
+  pub names : take n zs ≡ map key_string (take n shown)
+  pub all : AllRead (key_read known) xs' (zip ys' zs')
+  pub same : length ys' ≡ length zs'
+  pub behind : readings (key_read known) xs' (zip ys' zs') ≡ drop n shown
+
+pub keys_moved : (known actors : List (List ℕ)) (n : ℕ) (xs xs' : List (Option ℕ)) (ys ys' : List (Option ℤ)) (zs zs' : List (Option (List ℕ))) (shown : List Key) → AllRead (key_read known) xs (zip ys zs) → length ys ≡ length zs → readings (key_read known) xs (zip ys zs) ≡ shown → xs' ≡ drop n xs → ys' ≡ drop n ys → zs' ≡ drop n zs → KeysMoved known actors n xs xs' ys ys' zs zs' shown
+keys_moved known actors n xs xs' ys ys' zs zs' shown all same e p q r =
+    let pairs : zip ys' zs' ≡ drop n (zip ys zs) = ap (λ l. zip l zs') q ∙ ap (zip (drop n ys)) r ∙ zip_drop n ys zs same in
+    let w = are_moved known actors (key_read known) key_actor key_numbers IsKeyWithin (keys_read known) n xs xs' (zip ys zs) (zip ys' zs') shown all e p pairs in
+    let lists = key_lists known xs ys zs shown all same e in
+    record {
+      places = w.places;
+      counters = first_of key_counter n ys shown lists.counters;
+      names = first_of key_string n zs shown lists.names;
+      all = w.all;
+      same = omega (arith, same, ap length q, ap length r, length-drop n ys, length-drop n zs);
+      behind = w.behind;
+    }
+
+-- few of many are written
+pub few_written : {A B C : Type 0} (f : B → C) (g : A → B) (n : ℕ) (items : List A) (old new : Option (List C)) → old ≡ Some [] → n ≤ length items → n ≤ 2 ^ 32 → IfSome old (λ xs. new ≡ Some (xs ++ map f (map g (take n items)))) → IfSome new (λ xs. length xs ≤ 2 ^ 32)
+few_written f g n items None new e l s h = absurd (cc)
+few_written {C = C} f g n items (Some ys) new e l s h =
+    let P : List C → Type 0 = λ zs. new ≡ Some (zs ++ map f (map g (take n items))) in
+    let none : ys ≡ [] = cc in
+    let all : new ≡ Some (map f (map g (take n items))) = subst P none h in
+    subst (λ v. IfSome v (λ xs. length xs ≤ 2 ^ 32)) (sym all) (omega (arith, l, s, length-map (map g (take n items)) f, length-map (take n items) g, length-take-le n items l))

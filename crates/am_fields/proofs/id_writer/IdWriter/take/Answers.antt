@@ -1,0 +1,15 @@
+use Rattle.std.proofs.Common.{map, take, option_map, refl, ap, ◌∙◌}
+use Rattle.std.proofs.lemmas.List.{map-append}
+use Rattle.am_fields.specs.Columns.{place_of}
+use Rattle.am_fields.specs.Layout.{id_actor, id_counter}
+use Rattle.am_fields.proofs.WriteLaws.{wrote_all, OnOk-both}
+use Rattle.am_fields.proofs.id_writer.IdWriter.take.Goals as goal
+
+pub returns-clause-ids : goal.returns-clause-ids
+returns-clause-ids c = OnOk-both c.copy_to.result _ _ _ (λ placed counted before held.
+    let actors = c.args.actors.now in
+    let ids = take c.args.n c.args.from.now in
+    record {
+      places = wrote_all _ _ _ _ _ _ held.places placed refl (ap (map (option_map (place_of actors))) (map-append id_actor before ids) ∙ map-append (option_map (place_of actors)) (map id_actor before) (map id_actor ids));
+      counters = wrote_all _ _ _ _ _ _ held.counters counted refl (map-append id_counter before ids);
+    }) c.copy_to.ensures.places c.copy_to.ensures.counters
