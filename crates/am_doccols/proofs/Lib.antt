@@ -3,7 +3,10 @@ pub mod MetaLaws
 pub mod OneReading
 pub mod BackLaws
 pub mod RowsWritten
+pub mod RowsTaken
 pub mod MetasWritten
+pub mod MetasTaken
 pub mod Spelling
+pub mod TakingTested
 pub mod RowsSpelled
 pub mod MetasSpelled

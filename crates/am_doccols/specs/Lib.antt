@@ -5,4 +5,5 @@ pub mod Lent
 pub mod Conditions
 pub mod Back
 pub mod Writing
+pub mod Front
 pub mod MetaWriting

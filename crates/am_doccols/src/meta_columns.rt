@@ -5,9 +5,9 @@ ghost use Rattle.am_types.specs.Documents.{unless_empty};
 ghost use Rattle.am_fields.specs.Layout.{whole};
 ghost use Rattle.am_doccols.specs.Conditions.{IsPlace};
 
+use crate::lent::MetaFields;
 use am_delta::DeltaWriter;
-use am_fields::{NumberWriter, TextWriter};
-use am_types::{Meta, Text};
+use am_fields::{IndexCursor, NumberWriter, TextWriter};
 use am_values::ValueWriter;
 use std::alloc::{AllocError, Global};
 
@@ -33,17 +33,16 @@ pub fn number_in(number: u64) -> Option<i64>
 }
 
 // The cell of the time of a change.
-pub fn time_in(meta: &Meta) -> Option<i64>
-    ensures { result ≡ Some meta.now.time }
+pub fn time_in(meta: MetaFields<'_>) -> Option<i64>
+    ensures { result ≡ Some meta.entry.time }
 {
     Some(meta.time)
 }
 
 // A message, unless it is empty.
-pub fn message_in(message: &Text) -> Option<&str>
-    ensures { option_map (λ s. s.now) result ≡ unless_empty message.now }
+pub fn message_in(text: &str) -> Option<&str>
+    ensures { option_map (λ s. s.now) result ≡ unless_empty text.now }
 {
-    let text = message.as_str();
     if text.is_empty() {
         return None;
     }
@@ -58,6 +57,18 @@ pub fn push_places(column: &mut DeltaWriter, places: &[u64]) -> Result<(), Alloc
 {
     for place in places {
         column.push(Some(*place as i64))?;
+    }
+    Ok(())
+}
+
+// Puts the places that a cursor lends into the list, instead of those that it held.
+pub fn read_places(places: &mut Vec<u64>, from: IndexCursor<'_>) -> Result<(), AllocError>
+    ensures { OnOk result (places.new.items ≡ from.entry) }
+{
+    places.clear();
+    let mut rest = from;
+    while let Some(place) = rest.next() {
+        places.push(place)?;
     }
     Ok(())
 }

@@ -1,5 +1,5 @@
 //! Writing rows to their columns.
-ghost use Rattle.std.specs.Prelude.{◌≡◌, All, ◌+◌, ◌≤◌, ◌^◌, ◌++◌, ◌∷◌, [], Some, None, map, option_map, length, IfOk, IfSome, IfNone, OnOk, OnErr, IsErr};
+ghost use Rattle.std.specs.Prelude.{◌≡◌, All, ◌+◌, ◌≤◌, ◌^◌, ◌++◌, ◌∷◌, [], Some, None, map, option_map, length, take, drop, IfOk, IfSome, IfNone, OnOk, OnErr, IsErr};
 ghost use Rattle.am_types.specs.Fine.{IsId};
 ghost use Rattle.am_types.specs.Views.{id_of};
 ghost use Rattle.am_fields.specs.Columns.{place_of};
@@ -7,10 +7,13 @@ ghost use Rattle.am_fields.specs.Layout.{id_actor, id_counter};
 ghost use Rattle.am_colmeta.specs.Metadata.{metadata, listing, body};
 ghost use Rattle.am_doccols.specs.Columns.{written_rows};
 ghost use Rattle.am_doccols.specs.Conditions.{IsRowFor, HasRoom};
+ghost use Rattle.am_doccols.specs.Front.{HasRoomFor};
+ghost use Rattle.std.specs.List.{AllByRecursion};
 ghost use Rattle.am_doccols.specs.Lent.{row_with};
 
 use crate::finished::columns_in;
 use crate::lent::RowFields;
+use crate::rows::RowCursor;
 use am_delta::DeltaWriter;
 use am_fields::{FieldWriter, Fields, IdWriter, NumberWriter, columns_of, place_in};
 use am_types::{ActorId, Bytes, IdRef, List, OpId, Twin};
@@ -154,6 +157,34 @@ impl RowWriter {
             &mut self.succs.counters,
             actors,
             succs,
+        )?;
+        self.failed = false;
+        Ok(())
+    }
+
+    /// Takes the next n rows out of the cursor, as that many pushes, by runs: a long stretch of equal fields costs few
+    /// steps.
+    pub fn take(&mut self, from: &mut RowCursor<'_>, n: u64) -> Result<(), AllocError>
+        requires enough { n ≤ length from.old }
+        requires rows { AllByRecursion (IsRowFor self.old.0) (take n from.old) }
+        requires room { IfSome self.old.1 (λ rows. HasRoomFor rows (take n from.old)) }
+        ensures actors { self.new.0 ≡ self.old.0 }
+        ensures failed { IfNone self.old.1 ((self.new.1 ≡ None) × IsErr result) }
+        ensures ok { OnOk result (IfSome self.old.1 (λ rows. self.new.1 ≡ Some (rows ++ take n from.old))) }
+        ensures behind { OnOk result (from.new ≡ drop n from.old) }
+        ensures err { OnErr result (self.new.1 ≡ None) }
+    {
+        if self.failed {
+            return Err(AllocError);
+        }
+        self.failed = true;
+        from.copy_to(
+            &mut self.fields,
+            &mut self.ids,
+            &mut self.lengths,
+            &mut self.succs,
+            self.actors.as_slice(),
+            n,
         )?;
         self.failed = false;
         Ok(())

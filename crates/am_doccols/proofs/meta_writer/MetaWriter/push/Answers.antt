@@ -1,37 +1,10 @@
-use Rattle.std.proofs.Common.{Some, ◌∙◌, ap, map, length}
-use Rattle.am_fields.specs.Columns.{place_of}
-use Rattle.am_fields.specs.Extras.{extra_value}
-use Rattle.am_fields.specs.Layout.{whole}
-use Rattle.am_fields.proofs.WriteLaws.{step_as, steps_as}
-use Rattle.am_doccols.proofs.MetasWritten.{metas_pushed}
 use Rattle.am_doccols.proofs.meta_writer.MetaWriter.push.Goals as goal
 
-pub invariant_of-self-2 : goal.invariant_of-self-2
-invariant_of-self-2 c =
-    (metas_pushed c.self.inside.failed c.self.inside.actors c.as_slice.result.now c.self.inside.columns _ c.args.self.now c.args.meta.now
-    c.if-self.false (ap (λ p. p.0) c.self.view_is) (ap (λ p. p.1) c.self.view_is) c.self.invariant c.as_slice.ensures c.requires.meta c.requires.room
-    (record {
-      actor = step_as _ _ _ _ c.in_ok-push.ensures.ok (ap Some (c.place_in-place.ensures ∙ ap (place_of c.as_slice.result.now) c.as_slice-2.ensures.value));
-      seq = step_as _ _ _ _ c.in_ok-push-2.ensures.ok c.number_in.ensures;
-      max = step_as _ _ _ _ c.in_ok-push-3.ensures.ok c.number_in-2.ensures;
-      time = step_as _ _ _ _ c.in_ok-push-4.ensures.ok c.time_in.ensures;
-      message = step_as _ _ _ _ c.in_ok-push-5.ensures.ok c.message_in.ensures;
-      lengths = step_as _ _ _ _ c.in_ok-push-6.ensures.ok (ap (λ zs. Some (length zs)) c.as_slice-deps.ensures);
-      deps = steps_as _ _ _ _ c.in_ok-push_places.ensures (ap (map whole) c.as_slice-deps.ensures);
-      extra = step_as _ _ _ _ c.in_ok-push-7.ensures.ok (ap extra_value c.as_slice-3.ensures);
-    })).0
+pub push_lent-requires-clause-meta : goal.push_lent-requires-clause-meta
+push_lent-requires-clause-meta c = rw (c.as_slice.ensures, c.meta_fields_of.ensures) c.requires.meta
+
+pub push_lent-requires-clause-room : goal.push_lent-requires-clause-room
+push_lent-requires-clause-room c = rw c.as_slice.ensures c.requires.room
 
 pub returns-clause-ok : goal.returns-clause-ok
-returns-clause-ok c =
-    (metas_pushed c.self.inside.failed c.self.inside.actors c.as_slice.result.now c.self.inside.columns _ c.args.self.now c.args.meta.now
-    c.if-self.false (ap (λ p. p.0) c.self.view_is) (ap (λ p. p.1) c.self.view_is) c.self.invariant c.as_slice.ensures c.requires.meta c.requires.room
-    (record {
-      actor = step_as _ _ _ _ c.in_ok-push.ensures.ok (ap Some (c.place_in-place.ensures ∙ ap (place_of c.as_slice.result.now) c.as_slice-2.ensures.value));
-      seq = step_as _ _ _ _ c.in_ok-push-2.ensures.ok c.number_in.ensures;
-      max = step_as _ _ _ _ c.in_ok-push-3.ensures.ok c.number_in-2.ensures;
-      time = step_as _ _ _ _ c.in_ok-push-4.ensures.ok c.time_in.ensures;
-      message = step_as _ _ _ _ c.in_ok-push-5.ensures.ok c.message_in.ensures;
-      lengths = step_as _ _ _ _ c.in_ok-push-6.ensures.ok (ap (λ zs. Some (length zs)) c.as_slice-deps.ensures);
-      deps = steps_as _ _ _ _ c.in_ok-push_places.ensures (ap (map whole) c.as_slice-deps.ensures);
-      extra = step_as _ _ _ _ c.in_ok-push-7.ensures.ok (ap extra_value c.as_slice-3.ensures);
-    })).1
+returns-clause-ok c = rw (c.as_slice.ensures, c.meta_fields_of.ensures) at c.push_lent.ensures.ok
