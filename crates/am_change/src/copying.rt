@@ -9,7 +9,7 @@ ghost use Rattle.am_change.specs.Building.{hash_with, hashes_in, IsOpWithin};
 use am_opcols::{OpCursor, OpRef, PredCursor};
 use am_types::{
     ActorFault, ActorId, Bytes, Hash, IdRef, Key, KeyRef, List, ObjId, ObjRef, Op, OpId, RawValue,
-    Text, ValueRef,
+    SharedActors, Text, ValueRef,
 };
 use std::alloc::{AllocError, Global};
 
@@ -71,34 +71,51 @@ pub fn hashes_of(alloc: Global, bytes: &[u8], count: u64) -> Result<List<Hash>, 
     Ok(hashes)
 }
 
-fn id_in(alloc: Global, id: IdRef<'_>) -> Result<OpId, AllocError>
+// The actor, owned, which shares its bytes with those that came before.
+fn shared_in(alloc: Global, actors: &mut SharedActors, bytes: &[u8]) -> Result<ActorId, AllocError>
+    requires some { 1 ≤ length bytes.now }
+    requires few { length bytes.now ≤ 1024 }
+    ensures { IfOk result (λ actor. actor ≡ bytes.now) }
+{
+    match actors.of(alloc, bytes) {
+        Ok(actor) => Ok(actor),
+        Err(ActorFault::NoMemory) => Err(AllocError),
+        Err(ActorFault::Length) => unreachable!(),
+    }
+}
+
+fn id_in(alloc: Global, actors: &mut SharedActors, id: IdRef<'_>) -> Result<OpId, AllocError>
     requires { IsWithin (id_of id) }
     ensures { IfOk result (λ copy. copy ≡ id_of id.entry) }
 {
     Ok(OpId {
         counter: id.counter,
-        actor: actor_in(alloc, id.actor)?,
+        actor: shared_in(alloc, actors, id.actor)?,
     })
 }
 
-fn object_in(alloc: Global, object: ObjRef<'_>) -> Result<ObjId, AllocError>
+fn object_in(
+    alloc: Global,
+    actors: &mut SharedActors,
+    object: ObjRef<'_>,
+) -> Result<ObjId, AllocError>
     requires { IsObjectWithin (object_of object) }
     ensures { IfOk result (λ copy. copy ≡ object_of object.entry) }
 {
     match object {
         ObjRef::Root => Ok(ObjId::Root),
-        ObjRef::Made(id) => Ok(ObjId::Made(id_in(alloc, id)?)),
+        ObjRef::Made(id) => Ok(ObjId::Made(id_in(alloc, actors, id)?)),
     }
 }
 
-fn key_in(alloc: Global, key: KeyRef<'_>) -> Result<Key, AllocError>
+fn key_in(alloc: Global, actors: &mut SharedActors, key: KeyRef<'_>) -> Result<Key, AllocError>
     requires { IsKeyWithin (key_of key) }
     ensures { IfOk result (λ copy. copy ≡ key_of key.entry) }
 {
     match key {
         KeyRef::Name(name) => Ok(Key::Name(text_in(alloc, name)?)),
         KeyRef::Head => Ok(Key::Head),
-        KeyRef::Elem(id) => Ok(Key::Elem(id_in(alloc, id)?)),
+        KeyRef::Elem(id) => Ok(Key::Elem(id_in(alloc, actors, id)?)),
     }
 }
 
@@ -120,29 +137,33 @@ fn mark_in(alloc: Global, mark: Option<&str>) -> Result<Option<Text>, AllocError
     }
 }
 
-fn preds_in(alloc: Global, preds: PredCursor<'_>) -> Result<List<OpId>, AllocError>
+fn preds_in(
+    alloc: Global,
+    actors: &mut SharedActors,
+    preds: PredCursor<'_>,
+) -> Result<List<OpId>, AllocError>
     requires { AllByRecursion IsWithin preds }
     ensures { IfOk result (λ copy. copy ≡ preds.entry) }
 {
     let mut copy = List::new(alloc);
     let mut rest = preds;
     while let Some(id) = rest.next() {
-        copy.push(id_in(alloc, id)?)?;
+        copy.push(id_in(alloc, actors, id)?)?;
     }
     Ok(copy)
 }
 
-fn op_in(alloc: Global, op: OpRef<'_>) -> Result<Op, AllocError>
+fn op_in(alloc: Global, actors: &mut SharedActors, op: OpRef<'_>) -> Result<Op, AllocError>
     requires { IsOpWithin (op_of op) }
     ensures { IfOk result (λ copy. copy ≡ op_of op.entry) }
 {
     Ok(Op {
-        obj: object_in(alloc, op.obj)?,
-        key: key_in(alloc, op.key)?,
+        obj: object_in(alloc, actors, op.obj)?,
+        key: key_in(alloc, actors, op.key)?,
         insert: op.insert,
         action: op.action,
         value: value_in(alloc, op.value)?,
-        preds: preds_in(alloc, op.preds)?,
+        preds: preds_in(alloc, actors, op.preds)?,
         expand: op.expand,
         mark: mark_in(alloc, op.mark)?,
     })
@@ -153,10 +174,11 @@ pub fn ops_in(alloc: Global, ops: OpCursor<'_>) -> Result<List<Op>, AllocError>
     requires { AllByRecursion IsOpWithin ops }
     ensures { IfOk result (λ copy. copy ≡ ops.entry) }
 {
+    let mut actors = SharedActors::new(alloc);
     let mut copy = List::new(alloc);
     let mut rest = ops;
     while let Some(op) = rest.next() {
-        copy.push(op_in(alloc, op)?)?;
+        copy.push(op_in(alloc, &mut actors, op)?)?;
     }
     Ok(copy)
 }
