@@ -7,6 +7,10 @@ pub mod Walked
 pub mod Mentioned
 pub mod Whole
 pub mod Numbered
+pub mod Placed
+pub mod Known
+pub mod Ascending
+pub mod Runs
 pub mod Loop
 pub mod Paths
 pub mod Apart

@@ -58,7 +58,7 @@ sorted-map R f (x ∷ xs) s k d z h =
     let b = get_or-map f (x ∷ xs) k x d here in
     (λ j. is_lt (R (a j) (b j))) ∙ s k x z next
 
-same_answers : (p q : Bool) → (p ≡ true → q ≡ true) → (q ≡ true → p ≡ true) → p ≡ q
+pub same_answers : (p q : Bool) → (p ≡ true → q ≡ true) → (q ≡ true → p ≡ true) → p ≡ q
 same_answers true q f g = sym (f refl)
 same_answers false true f g = g refl
 same_answers false false f g = refl
@@ -70,7 +70,7 @@ ties_alike x y = same_answers _ _
     (λ t. ap (same_id x) (sym (tells_apart author_exact x y t)) ∙ same_id_itself x)
 
 -- neither below the other
-ties_are : (x y : OpId) → ties (λ a b. is_lt (author_cmp a b)) x y ≡ same_id x y
+pub ties_are : (x y : OpId) → ties (λ a b. is_lt (author_cmp a b)) x y ≡ same_id x y
 ties_are x y = go (author_cmp x y) (author_cmp y x) (author_total.antisymm y x) ∙ sym (ties_alike x y)
   where
     go : (o p : Ordering) → p ≡ ordering_reverse o → (not (is_lt o) && not (is_lt p)) ≡ is_eq o

@@ -4,6 +4,7 @@
 --     Rebuilds t result   the answer is the right one for the table t: the changes of its history, which has the stated heads;
 --                         or the least hash that is among just one of its heads and the stated ones; or that it has no history
 --     without_hashes result      the answer without the hashes
+--     changes_rebuilt result     the answer's changes alone
 --     AreOwn pairs        each change stands behind its own hash
 -- Where there is no memory nothing is said.
 use Rattle.std.specs.Prelude.{◌≡◌, List, map, None, Result, Ok, Err, Vec, vec_items, ⊤}
@@ -17,6 +18,7 @@ use Rattle.am_change.specs.Hashes.{with_hashes}
 use Rattle.am_delivery.specs.Waiting.{members_of}
 use Rattle.am_rebuild.specs.Judged.{IsLeastApart}
 use Rattle.am_rebuild.specs.declared.fault.RebuildFault.{RebuildFault}
+use Rattle.am_rebuild.specs.declared.rebuilt.Rebuilt.{Rebuilt}
 use Rattle.am_rebuild.specs.declared.fault.RebuildFault.TheVariants.{NoHistory, HeadsMismatch, NoMemory}
 
 abbrev pub bare : Table → Table
@@ -38,6 +40,10 @@ changes_of pairs = map (λ e. e.1) pairs
 abbrev pub without_hashes : Result (Vec (Hash × Change) Global) RebuildFault → Result (List Change) RebuildFault
 without_hashes (Ok pairs) = Ok (changes_of (vec_items pairs))
 without_hashes (Err fault) = Err fault
+
+abbrev pub changes_rebuilt : Result Rebuilt RebuildFault → Result (List Change) RebuildFault
+changes_rebuilt (Ok r) = Ok (changes_of (vec_items r.entries))
+changes_rebuilt (Err fault) = Err fault
 
 abbrev pub AreOwn : List (Hash × Change) → Type 0
 AreOwn pairs = members_of pairs ≡ with_hashes (changes_of pairs)

@@ -1,4 +1,5 @@
 pub mod Mentions
+pub mod Names
 pub mod Joined
 pub mod Stops
 pub mod Judged

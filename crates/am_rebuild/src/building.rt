@@ -9,7 +9,7 @@ ghost use Rattle.std.specs.Prelude.{◌≡◌, [], ◌-◌, ◌^◌, ◌<◌, Li
 
 use crate::change::change_at;
 use crate::joining::Joining;
-use crate::mention::{Named, sorted_mentions};
+use crate::mention::{Named, mentions_among};
 use am_types::{Meta, Row};
 use std::alloc::{AllocError, Global};
 
@@ -65,7 +65,7 @@ pub fn build<J: Joining>(
     requires maxes { All (λ m. m.max < 2 ^ 53) metas.now }
     ensures { IfOk result (λ built. (t : Table) → t.rows ≡ rows.now → t.metas ≡ metas.now → BuildsAll J.hash_of t (J.members joining.new) built) }
 {
-    let all = sorted_mentions(alloc, rows)?;
+    let all = mentions_among(alloc, rows)?;
     let built = build_from(alloc, joining, &all, metas)?;
     Ok(built)
 }

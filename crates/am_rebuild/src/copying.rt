@@ -11,7 +11,7 @@ use am_colmeta::ActorList;
 use am_doccols::{IndexCursor, MetaCursor, MetaRef, RowCursor, RowRef, SuccCursor};
 use am_types::{
     ActorFault, ActorId, Bytes, IdRef, Key, KeyRef, List, Meta, ObjId, ObjRef, OpId, RawValue, Row,
-    Text, ValueRef,
+    SharedActors, Text, ValueRef,
 };
 use std::alloc::{AllocError, Global};
 
@@ -31,11 +31,12 @@ fn text_in(alloc: Global, text: &str) -> Result<Text, AllocError>
     Ok(copy)
 }
 
-fn actor_in(alloc: Global, bytes: &[u8]) -> Result<ActorId, AllocError>
+// The actor, owned, which shares its bytes with those that came before.
+fn actor_in(alloc: Global, known: &mut SharedActors, bytes: &[u8]) -> Result<ActorId, AllocError>
     requires { IsShortActor bytes.now }
     ensures { IfOk result (λ actor. actor ≡ bytes.now) }
 {
-    match ActorId::of(alloc, bytes) {
+    match known.of(alloc, bytes) {
         Ok(actor) => Ok(actor),
         Err(ActorFault::NoMemory) => Err(AllocError),
         Err(ActorFault::Length) => unreachable!(),
@@ -47,42 +48,47 @@ pub(crate) fn actors_in(alloc: Global, actors: ActorList<'_>) -> Result<List<Act
     requires { AllByRecursion IsShortActor actors }
     ensures { IfOk result (λ copy. copy ≡ actors.entry) }
 {
+    let mut known = SharedActors::new(alloc);
     let mut copy = List::new(alloc);
     let mut rest = actors;
     while let Some(actor) = rest.next() {
-        copy.push(actor_in(alloc, actor)?)?;
+        copy.push(actor_in(alloc, &mut known, actor)?)?;
     }
     Ok(copy)
 }
 
-fn id_in(alloc: Global, id: IdRef<'_>) -> Result<OpId, AllocError>
+fn id_in(alloc: Global, known: &mut SharedActors, id: IdRef<'_>) -> Result<OpId, AllocError>
     requires { IsWithin (id_of id) }
     ensures { IfOk result (λ copy. copy ≡ id_of id.entry) }
 {
     Ok(OpId {
         counter: id.counter,
-        actor: actor_in(alloc, id.actor)?,
+        actor: actor_in(alloc, known, id.actor)?,
     })
 }
 
-fn object_in(alloc: Global, object: ObjRef<'_>) -> Result<ObjId, AllocError>
+fn object_in(
+    alloc: Global,
+    known: &mut SharedActors,
+    object: ObjRef<'_>,
+) -> Result<ObjId, AllocError>
     requires { IsObjectWithin (object_of object) }
     ensures { IfOk result (λ copy. copy ≡ object_of object.entry) }
 {
     match object {
         ObjRef::Root => Ok(ObjId::Root),
-        ObjRef::Made(id) => Ok(ObjId::Made(id_in(alloc, id)?)),
+        ObjRef::Made(id) => Ok(ObjId::Made(id_in(alloc, known, id)?)),
     }
 }
 
-fn key_in(alloc: Global, key: KeyRef<'_>) -> Result<Key, AllocError>
+fn key_in(alloc: Global, known: &mut SharedActors, key: KeyRef<'_>) -> Result<Key, AllocError>
     requires { IsKeyWithin (key_of key) }
     ensures { IfOk result (λ copy. copy ≡ key_of key.entry) }
 {
     match key {
         KeyRef::Name(name) => Ok(Key::Name(text_in(alloc, name)?)),
         KeyRef::Head => Ok(Key::Head),
-        KeyRef::Elem(id) => Ok(Key::Elem(id_in(alloc, id)?)),
+        KeyRef::Elem(id) => Ok(Key::Elem(id_in(alloc, known, id)?)),
     }
 }
 
@@ -104,14 +110,18 @@ fn mark_in(alloc: Global, mark: Option<&str>) -> Result<Option<Text>, AllocError
     }
 }
 
-fn succs_in(alloc: Global, succs: SuccCursor<'_>) -> Result<List<OpId>, AllocError>
+fn succs_in(
+    alloc: Global,
+    known: &mut SharedActors,
+    succs: SuccCursor<'_>,
+) -> Result<List<OpId>, AllocError>
     requires { AllByRecursion IsWithin succs }
     ensures { IfOk result (λ copy. copy ≡ succs.entry) }
 {
     let mut copy = List::new(alloc);
     let mut rest = succs;
     while let Some(id) = rest.next() {
-        copy.push(id_in(alloc, id)?)?;
+        copy.push(id_in(alloc, known, id)?)?;
     }
     Ok(copy)
 }
@@ -127,29 +137,29 @@ fn deps_in(alloc: Global, deps: IndexCursor<'_>) -> Result<List<u64>, AllocError
     Ok(copy)
 }
 
-fn row_in(alloc: Global, row: RowRef<'_>) -> Result<Row, AllocError>
+fn row_in(alloc: Global, known: &mut SharedActors, row: RowRef<'_>) -> Result<Row, AllocError>
     requires { IsCopied (row_of row) }
     ensures { IfOk result (λ copy. copy ≡ row_of row.entry) }
 {
     Ok(Row {
-        obj: object_in(alloc, row.obj)?,
-        key: key_in(alloc, row.key)?,
-        id: id_in(alloc, row.id)?,
+        obj: object_in(alloc, known, row.obj)?,
+        key: key_in(alloc, known, row.key)?,
+        id: id_in(alloc, known, row.id)?,
         insert: row.insert,
         action: row.action,
         value: value_in(alloc, row.value)?,
-        succs: succs_in(alloc, row.succs)?,
+        succs: succs_in(alloc, known, row.succs)?,
         expand: row.expand,
         mark: mark_in(alloc, row.mark)?,
     })
 }
 
-fn meta_in(alloc: Global, meta: MetaRef<'_>) -> Result<Meta, AllocError>
+fn meta_in(alloc: Global, known: &mut SharedActors, meta: MetaRef<'_>) -> Result<Meta, AllocError>
     requires { IsShortActor (meta_of meta).actor }
     ensures { IfOk result (λ copy. copy ≡ meta_of meta.entry) }
 {
     Ok(Meta {
-        actor: actor_in(alloc, meta.actor)?,
+        actor: actor_in(alloc, known, meta.actor)?,
         seq: meta.seq,
         max: meta.max,
         time: meta.time,
@@ -164,10 +174,11 @@ pub(crate) fn rows_in(alloc: Global, rows: RowCursor<'_>) -> Result<List<Row>, A
     requires { AllByRecursion IsCopied rows }
     ensures { IfOk result (λ copy. copy ≡ rows.entry) }
 {
+    let mut known = SharedActors::new(alloc);
     let mut copy = List::new(alloc);
     let mut rest = rows;
     while let Some(row) = rest.next() {
-        copy.push(row_in(alloc, row)?)?;
+        copy.push(row_in(alloc, &mut known, row)?)?;
     }
     Ok(copy)
 }
@@ -177,10 +188,11 @@ pub(crate) fn metas_in(alloc: Global, metas: MetaCursor<'_>) -> Result<List<Meta
     requires { AllByRecursion (λ m. IsShortActor m.actor) metas }
     ensures { IfOk result (λ copy. copy ≡ metas.entry) }
 {
+    let mut known = SharedActors::new(alloc);
     let mut copy = List::new(alloc);
     let mut rest = metas;
     while let Some(meta) = rest.next() {
-        copy.push(meta_in(alloc, meta)?)?;
+        copy.push(meta_in(alloc, &mut known, meta)?)?;
     }
     Ok(copy)
 }

@@ -3,17 +3,20 @@ ghost use Rattle.std.specs.Prelude.{◌≡◌, ◌<◌, ◌^◌, All, IfOk, IsTr
 ghost use Rattle.am_types.specs.declared.Table.{Table as ATable};
 ghost use Rattle.am_types.specs.Order.{bytes_cmp, hash_cmp, among, Ascends};
 ghost use Rattle.am_types.specs.Deliver.{MayCome};
+ghost use Rattle.am_types.specs.ValidSets.{Valid};
+ghost use Rattle.am_fits.specs.Indexes.{AreOf};
 ghost use Rattle.am_change.specs.Hashes.{own_hash};
 ghost use Rattle.am_delivery.specs.Waiting.{members_of};
 ghost use Rattle.am_histories.specs.Laws.{table_actors};
 ghost use Rattle.am_doc.specs.Sound.{IsSound};
 ghost use Rattle.am_rebuild.specs.Judged.{IsJudged};
-ghost use Rattle.am_rebuild.specs.Documents.{Rebuilds, bare, without_hashes, AreOwn};
+ghost use Rattle.am_rebuild.specs.Documents.{Rebuilds, bare, changes_rebuilt, without_hashes, AreOwn};
 
 use crate::copying::{actors_in, metas_in, rows_in};
 use crate::fault::RebuildFault;
 use crate::gathered::Gathered;
 use crate::judgement::{Judgement, judge};
+use crate::rebuilt::Rebuilt;
 use am_doc::{DocRef, spelled_tables_are_sound};
 use am_types::{Change, Hash, List, Table};
 use std::alloc::{AllocError, Global};
@@ -59,16 +62,34 @@ fn judged_in(alloc: Global, table: &Table) -> Result<(Gathered, Judgement), Allo
 }
 
 /// What is answered where this is found.
-fn answer(gathered: Gathered, judgement: Judgement) -> Result<Vec<(Hash, Change)>, RebuildFault>
-    ensures judged { (t : ATable) → IsJudged own_hash (bare t) gathered judgement → Rebuilds t (without_hashes result) }
-    ensures own_hashes { (t : ATable) → IsJudged own_hash (bare t) gathered judgement → IfOk result (λ pairs. AreOwn (vec_items pairs)) }
-    ensures may_come { (t : ATable) → IsJudged own_hash (bare t) gathered judgement → IfOk result (λ pairs. All MayCome (members_of (vec_items pairs))) }
+fn answer(gathered: Gathered, judgement: Judgement) -> Result<Rebuilt, RebuildFault>
+    ensures judged { (t : ATable) → IsJudged own_hash (bare t) gathered judgement → Rebuilds t (changes_rebuilt result) }
+    ensures own_hashes { (t : ATable) → IsJudged own_hash (bare t) gathered judgement → IfOk result (λ r. AreOwn (vec_items r.entries)) }
+    ensures may_come { (t : ATable) → IsJudged own_hash (bare t) gathered judgement → IfOk result (λ r. All MayCome (members_of (vec_items r.entries))) }
+    ensures of_set { IfOk result (λ r. AreOf (members_of (vec_items r.entries)) r.graph r.index) }
+    ensures valid { IfOk result (λ r. Valid (members_of (vec_items r.entries))) }
 {
     match judgement {
-        Judgement::Whole => Ok(gathered.into_entries()),
+        Judgement::Whole => Ok(gathered.into_rebuilt()),
         Judgement::OtherHeads(hash) => Err(RebuildFault::HeadsMismatch(hash)),
         Judgement::NoHistory => Err(RebuildFault::NoHistory),
     }
+}
+
+/// The changes of which a document tells, each behind its own hash, in the order of its change rows, with the graph and the
+/// index that were built of them. Refused as `rebuild` is.
+pub fn rebuild_whole(alloc: Global, doc: DocRef<'_>) -> Result<Rebuilt, RebuildFault>
+    ensures judged { Rebuilds doc.entry (changes_rebuilt result) }
+    ensures own_hashes { IfOk result (λ r. AreOwn (vec_items r.entries)) }
+    ensures may_come { IfOk result (λ r. All MayCome (members_of (vec_items r.entries))) }
+    ensures of_set { IfOk result (λ r. AreOf (members_of (vec_items r.entries)) r.graph r.index) }
+    ensures valid { IfOk result (λ r. Valid (members_of (vec_items r.entries))) }
+{
+    doc.is_spelled();
+    spelled_tables_are_sound();
+    let table = table_in(alloc, &doc)?;
+    let (gathered, judgement) = judged_in(alloc, &table)?;
+    answer(gathered, judgement)
 }
 
 /// The changes of which a document tells, each behind its own hash, in the order of its change rows. Refused as `rebuild` is.
@@ -77,11 +98,8 @@ pub fn rebuild_hashed(alloc: Global, doc: DocRef<'_>) -> Result<Vec<(Hash, Chang
     ensures own_hashes { IfOk result (λ pairs. AreOwn (vec_items pairs)) }
     ensures may_come { IfOk result (λ pairs. All MayCome (members_of (vec_items pairs))) }
 {
-    doc.is_spelled();
-    spelled_tables_are_sound();
-    let table = table_in(alloc, &doc)?;
-    let (gathered, judgement) = judged_in(alloc, &table)?;
-    answer(gathered, judgement)
+    let rebuilt = rebuild_whole(alloc, doc)?;
+    Ok(rebuilt.entries)
 }
 
 /// The changes of which a document tells, in the order of its change rows. NoHistory where it tells of none, in that no valid

@@ -6,7 +6,7 @@ ghost use Rattle.am_rebuild.specs.Judged.{first_apart, IsJudged};
 
 use crate::building::build_from;
 use crate::joining::Joining;
-use crate::mention::sorted_mentions;
+use crate::mention::mentions_in;
 use crate::telling::tell_all;
 use am_types::{ActorId, Hash, Table};
 use std::alloc::{AllocError, Global};
@@ -78,7 +78,7 @@ pub fn judge<J: Joining>(
         return Ok(Judgement::NoHistory);
     }
     let rows = table.rows.as_slice();
-    let all = sorted_mentions(alloc, rows)?;
+    let all = mentions_in(alloc, table)?;
     if !build_from(alloc, joining, &all, table.metas.as_slice())? {
         return Ok(Judgement::NoHistory);
     }

@@ -13,17 +13,20 @@ mod joining;
 mod judgement;
 mod lasts;
 mod mention;
+mod names;
 mod order;
 mod path;
 mod rebuilding;
+mod rebuilt;
 mod telling;
 #[cfg(test)]
 mod tests;
 
 pub use building::build;
-pub use document::{rebuild, rebuild_hashed};
+pub use document::{rebuild, rebuild_hashed, rebuild_whole};
 pub use fault::RebuildFault;
 pub use gathered::Gathered;
 pub use joining::Joining;
 pub use judgement::{Judgement, judge};
 pub use order::rows_in_order;
+pub use rebuilt::Rebuilt;

@@ -1,12 +1,15 @@
 //! Gathered changes as what changes are rebuilt into.
 ghost use Rattle.std.specs.Prelude.{◌≡◌, [], List, vec_items};
 ghost use Rattle.am_types.specs.Members.{Member};
+ghost use Rattle.am_types.specs.ValidSets.{Valid};
+ghost use Rattle.am_fits.specs.Indexes.{AreOf};
 ghost use Rattle.am_change.specs.Hashes.{own_hash};
 ghost use Rattle.am_delivery.specs.Waiting.{members_of};
 
 use crate::gathered::{Gathered, grow, may_join};
 use crate::joining::Joining;
 use crate::lasts::last_in;
+use crate::rebuilt::Rebuilt;
 use am_change::{hash_of, is_fine};
 use am_fits::OpIndex;
 use am_graph::Graph;
@@ -32,6 +35,19 @@ impl Gathered {
         ensures { members_of (vec_items result) ≡ self }
     {
         self.entries
+    }
+
+    /// The same, with their graph and index.
+    pub fn into_rebuilt(self) -> Rebuilt
+        ensures entries { members_of (vec_items result.entries) ≡ self }
+        ensures of_set { AreOf (members_of (vec_items result.entries)) result.graph result.index }
+        ensures valid { Valid (members_of (vec_items result.entries)) }
+    {
+        Rebuilt {
+            entries: self.entries,
+            graph: self.graph,
+            index: self.index,
+        }
     }
 }
 

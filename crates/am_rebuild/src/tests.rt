@@ -98,7 +98,14 @@ fn rebuilds_each_chunk(rt: HostRuntime) -> Result<(), Fail> {
         assert!(rt; is_chunk(rt.alloc(), &pairs[i].1, chunks[i])?);
         assert!(rt; pairs[i].0.0[..4] == chunks[i][4..8]);
     }
+    let whole = rebuild_whole(rt.alloc(), doc.again())?;
+    assert_eq!(rt; whole.entries.len(), 2);
+    assert_eq!(rt; whole.index.totals().operations, 4);
+    let heads = whole.graph.heads(rt.alloc())?;
+    assert_eq!(rt; heads.len(), 1);
+    assert!(rt; heads.as_slice()[0].0.as_slice() == &TEXT[6..38]);
     assert_eq!(rt; rebuild(rt.alloc(), doc)?.len(), 2);
+    assert_eq!(rt; Gathered::new(rt.alloc()).into_entries().len(), 0);
     Ok(())
 }
 

@@ -8,17 +8,17 @@ use Rattle.am_rebuild.proofs.document.answer.Goals as goal
 pub returns-in-Whole-clause-judged : goal.returns-in-Whole-clause-judged
 returns-in-Whole-clause-judged c = λ t j.
     let whole = subst (IsJudged own_hash (bare t) c.args.gathered) c.in-Whole.is j in
-    entries_whole t c.args.gathered (vec_items c.into_entries.result) c.into_entries.ensures whole.0 whole.1
+    entries_whole t c.args.gathered (vec_items c.into_rebuilt.result.entries) c.into_rebuilt.ensures.entries whole.0 whole.1
 
 pub returns-in-Whole-clause-own_hashes : goal.returns-in-Whole-clause-own_hashes
 returns-in-Whole-clause-own_hashes c = λ t j.
     let whole = subst (IsJudged own_hash (bare t) c.args.gathered) c.in-Whole.is j in
-    entries_own t c.args.gathered (vec_items c.into_entries.result) c.into_entries.ensures whole.0
+    entries_own t c.args.gathered (vec_items c.into_rebuilt.result.entries) c.into_rebuilt.ensures.entries whole.0
 
 pub returns-in-Whole-clause-may_come : goal.returns-in-Whole-clause-may_come
 returns-in-Whole-clause-may_come c = λ t j.
     let whole = subst (IsJudged own_hash (bare t) c.args.gathered) c.in-Whole.is j in
-    entries_come t c.args.gathered (vec_items c.into_entries.result) c.into_entries.ensures whole.0
+    entries_come t c.args.gathered (vec_items c.into_rebuilt.result.entries) c.into_rebuilt.ensures.entries whole.0
 
 pub returns-in-OtherHeads-clause-judged : goal.returns-in-OtherHeads-clause-judged
 returns-in-OtherHeads-clause-judged c = λ t j.

@@ -6,7 +6,7 @@ use Rattle.am_change.specs.Hashes.{own_hash}
 use Rattle.am_histories.specs.Laws.{table_actors}
 use Rattle.am_rebuild.specs.Judged.{IsJudged}
 use Rattle.am_rebuild.proofs.Documents.{maxes_of, actors_of}
-use Rattle.am_rebuild.proofs.document.rebuild_hashed.Goals as goal
+use Rattle.am_rebuild.proofs.document.rebuild_whole.Goals as goal
 
 pub table_in-requires : goal.table_in-requires
 table_in-requires c = c.spelled_tables_are_sound.ensures c.is_spelled.ensures.bytes c.args.doc c.is_spelled.ensures.spelled
