@@ -8,6 +8,7 @@ use Rattle.std.specs.declared.cmp.Ordering.TheVariants.{Less, Equal, Greater}
 use Rattle.std.proofs.lemmas.Bool.{cases_Bool, or_parts, both_ways}
 use Rattle.std.proofs.lemmas.List.{take_more}
 use Rattle.std.proofs.lemmas.List.Elements.{Contains-append_right}
+use Rattle.std.proofs.lemmas.List.Folds.{list_any-append}
 use Rattle.am_types.specs.declared.Hash.{Hash}
 use Rattle.am_types.specs.declared.Change.{Change}
 use Rattle.am_types.specs.Order.{hash_cmp, same, among}
@@ -54,8 +55,47 @@ remaining_more hs h (m ∷ W) =
           ]
     ]
 
-pub gone_now : (w : BTreeMap Hash Change) (old new : List Hash) (h : Hash) → new ≡ old ++ h ∷ [] → remaining new (waiting_of w) ≡ without h (remaining old (waiting_of w))
-gone_now w old new h e = ap (λ hs. remaining hs (waiting_of w)) e ∙ remaining_more old h (waiting_of w)
+-- the hashes are put down in two lists
+pub remaining_both : (hs gs : List Hash) (W : List Member) → remaining gs (remaining hs W) ≡ remaining (hs ++ gs) W
+remaining_both hs gs [] = refl
+remaining_both hs gs (m ∷ W) =
+    let again : remaining gs (remaining hs W) ≡ remaining (hs ++ gs) W = remaining_both hs gs W in
+    let test : among hash_cmp (hs ++ gs) m.hash ≡ (among hash_cmp hs m.hash || among hash_cmp gs m.hash) = list_any-append (same hash_cmp m.hash) hs gs in
+    elim (cases_Bool (among hash_cmp hs m.hash)) [
+      | inl t ↦ let e : among hash_cmp (hs ++ gs) m.hash ≡ true = test ∙ ap (λ b. b || among hash_cmp gs m.hash) t in simp (e, t) again
+      | inr f ↦
+          let e : among hash_cmp (hs ++ gs) m.hash ≡ among hash_cmp gs m.hash = test ∙ ap (λ b. b || among hash_cmp gs m.hash) f in
+          elim (cases_Bool (among hash_cmp gs m.hash)) [
+            | inl t ↦ let u = e ∙ t in simp (u, f, t) again
+            | inr g ↦ let u = e ∙ g in simp (u, f, g) (ap (λ l. m ∷ l) again)
+          ]
+    ]
+
+-- those of the first list are taken out, and then those of the second
+pub both_left : (hs gs ks ls : List Hash) (W V U : List Member) → ks ≡ hs → ls ≡ gs → V ≡ remaining ks W → U ≡ remaining ls V → U ≡ remaining (hs ++ gs) W
+both_left hs gs ks ls W V U k l v u = u ∙ (λ i. remaining (l i) (v i)) ∙ ap (λ h. remaining gs (remaining h W)) k ∙ remaining_both hs gs W
+
+filters_turned : (p q : Member → Bool) (W : List Member) → filter p (filter q W) ≡ filter q (filter p W)
+filters_turned p q [] = refl
+filters_turned p q (m ∷ W) =
+    let again : filter p (filter q W) ≡ filter q (filter p W) = filters_turned p q W in
+    elim (cases_Bool (p m)) [
+      | inl t ↦ elim (cases_Bool (q m)) [ inl u ↦ simp (t, u) (ap (λ l. m ∷ l) again) | inr g ↦ simp (t, g) again ]
+      | inr f ↦ elim (cases_Bool (q m)) [ inl u ↦ simp (f, u) again | inr g ↦ simp (f, g) again ]
+    ]
+
+-- one more hash is put down in the first list
+pub gone_first : (w : BTreeMap Hash Change) (hs gs new : List Hash) (h : Hash) → new ≡ hs ++ h ∷ [] → remaining (new ++ gs) (waiting_of w) ≡ without h (remaining (hs ++ gs) (waiting_of w))
+gone_first w hs gs new h e =
+    let W : List Member = waiting_of w in
+    ap (λ l. remaining (l ++ gs) W) e ∙ sym (remaining_both (hs ++ h ∷ []) gs W) ∙ ap (remaining gs) (remaining_more hs h W)
+    ∙ filters_turned (λ m. not (among hash_cmp gs m.hash)) (λ m. not (same hash_cmp h m.hash)) (remaining hs W) ∙ ap (without h) (remaining_both hs gs W)
+
+-- or in the second
+pub gone_second : (w : BTreeMap Hash Change) (hs gs new : List Hash) (h : Hash) → new ≡ gs ++ h ∷ [] → remaining (hs ++ new) (waiting_of w) ≡ without h (remaining (hs ++ gs) (waiting_of w))
+gone_second w hs gs new h e =
+    let W : List Member = waiting_of w in
+    ap (λ l. remaining (hs ++ l) W) e ∙ sym (remaining_both hs (gs ++ h ∷ []) W) ∙ remaining_more gs h (remaining hs W) ∙ ap (without h) (remaining_both hs gs W)
 
 -- the changes with some hashes are taken out one by one
 pub removed_next : (W : List Member) (w v : BTreeMap Hash Change) (hs : List Hash) (i : ℕ) (d : Hash) → i < length hs → waiting_of w ≡ remaining (take i hs) W → IsOrdered hash_cmp w

@@ -1,15 +1,19 @@
 -- Pairs of hashes and changes, and the changes that wait.
 --     waiting_of w        the waiting changes of a map, ascending by hash
 --     remaining hs W      the members of W whose hashes aren't among hs
+--     taken_out hs W      the members that leave W where those with the hashes hs are taken out, one after another
+--     all_gone g          the hashes of the changes that wait no longer
 --     IsTracked C W o     what the members of W lack beside the closed set C is as `o` has it, where it has anything
-use Rattle.std.specs.Prelude.{List, map, filter, not, Option, IfSome}
+use Rattle.std.specs.Prelude.{List, [], ◌∷◌, ◌++◌, map, filter, not, Option, IfSome, vec_items}
 use Rattle.std.specs.BTreeMap.{BTreeMap}
 use Rattle.am_types.specs.declared.Hash.{Hash}
 use Rattle.am_types.specs.declared.Change.{Change}
-use Rattle.am_types.specs.Order.{hash_cmp, among}
+use Rattle.am_types.specs.Order.{hash_cmp, same, among}
 use Rattle.am_types.specs.Members.{Member}
+use Rattle.am_types.specs.Deliver.{without}
 use Rattle.am_delivery.specs.Tracking.{Tracks}
 use Rattle.am_delivery.specs.Views.{tracker}
+use Rattle.am_delivery.specs.declared.admitting.Gone.{Gone}
 use Rattle.am_delivery.specs.declared.pending.Pending.{Pending}
 
 abbrev pub member_of : Hash × Change → Member
@@ -23,6 +27,13 @@ waiting_of w = members_of w.entries
 
 abbrev pub remaining : List Hash → List Member → List Member
 remaining hs W = filter (λ m. not (among hash_cmp hs m.hash)) W
+
+abbrev pub taken_out : List Hash → List Member → List Member
+taken_out [] W = []
+taken_out (h ∷ hs) W = filter (λ m. same hash_cmp h m.hash) W ++ taken_out hs (without h W)
+
+abbrev pub all_gone : Gone → List Hash
+all_gone g = vec_items g.joined ++ vec_items g.turned_away
 
 abbrev pub IsTracked : List Member → List Member → Option Pending → Type 0
 IsTracked C W pending = IfSome pending (λ p. Tracks C W (tracker p))

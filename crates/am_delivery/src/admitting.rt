@@ -1,17 +1,26 @@
 //! Settling, by the queue of the changes that lack nothing.
-ghost use Rattle.std.specs.Prelude.{◌≡◌, All, IfOk, OnOk, MatchBool, MatchOption, vec_items};
+ghost use Rattle.std.specs.Prelude.{◌≡◌, ◌++◌, List, All, IfOk, OnOk, MatchBool, MatchOption, vec_items};
 ghost use Rattle.am_types.specs.Members.{Member};
 ghost use Rattle.am_types.specs.ValidSets.{Valid};
 ghost use Rattle.am_types.specs.Deliver.{Sets, TakesOne, IsSettled, Waits, admit_by, turned_away, settle};
 ghost use Rattle.am_delivery.specs.Tracking.{Tracks};
 ghost use Rattle.am_delivery.specs.Views.{tracker};
-ghost use Rattle.am_delivery.specs.Waiting.{waiting_of, remaining};
+ghost use Rattle.am_delivery.specs.Waiting.{waiting_of, remaining, taken_out, all_gone};
 
 use crate::closed::Closed;
 use crate::pending::Pending;
 use am_types::{Change, Hash, Rejected, Verdict, Why};
 use std::alloc::{AllocError, Global};
 use std::collections::BTreeMap;
+
+/// The hashes of the changes that wait no longer.
+#[derive(Drop)]
+pub struct Gone {
+    /// Of those that have joined, in this order.
+    pub joined: Vec<Hash>,
+    /// Of those that were rejected.
+    pub turned_away: Vec<Hash>,
+}
 
 /// Why a change with this verdict is rejected, or None where it fits.
 fn why_not(verdict: Verdict) -> Option<Why>
@@ -32,17 +41,18 @@ fn admit_next<S: Closed>(
     alloc: Global,
     closed: &mut S,
     waiting: &BTreeMap<Hash, Change>,
-    gone: &mut Vec<Hash>,
+    gone: &mut Gone,
     pending: &mut Pending,
     rejected: &mut Vec<Rejected>,
 ) -> Result<bool, AllocError>
-    requires tracks { Tracks (S.members closed.old) (remaining (vec_items gone.old) (waiting_of waiting.now)) (tracker pending.old) }
+    requires tracks { Tracks (S.members closed.old) (remaining (all_gone gone.old) (waiting_of waiting.now)) (tracker pending.old) }
     requires valid { Valid (S.members closed.old) }
-    requires waits { All (Waits (S.members closed.old)) (remaining (vec_items gone.old) (waiting_of waiting.now)) }
-    ensures tracks { IfOk result (λ taken. Tracks (S.members closed.new) (remaining (vec_items gone.new) (waiting_of waiting.now)) (tracker pending.new)) }
-    ensures one { let old : Sets = record { closed = S.members closed.old; waiting = remaining (vec_items gone.old) (waiting_of waiting.now); rejected = vec_items rejected.old } in
-        let new : Sets = record { closed = S.members closed.new; waiting = remaining (vec_items gone.new) (waiting_of waiting.now); rejected = vec_items rejected.new } in
+    requires waits { All (Waits (S.members closed.old)) (remaining (all_gone gone.old) (waiting_of waiting.now)) }
+    ensures tracks { IfOk result (λ taken. Tracks (S.members closed.new) (remaining (all_gone gone.new) (waiting_of waiting.now)) (tracker pending.new)) }
+    ensures one { let old : Sets = record { closed = S.members closed.old; waiting = remaining (all_gone gone.old) (waiting_of waiting.now); rejected = vec_items rejected.old } in
+        let new : Sets = record { closed = S.members closed.new; waiting = remaining (all_gone gone.new) (waiting_of waiting.now); rejected = vec_items rejected.new } in
         IfOk result (λ taken. MatchBool taken (TakesOne old new) ((new ≡ old) × IsSettled old)) }
+    ensures joined { OnOk result ((C : List Member) → S.members closed.old ≡ C ++ taken_out (vec_items gone.old.joined) (waiting_of waiting.now) → S.members closed.new ≡ C ++ taken_out (vec_items gone.new.joined) (waiting_of waiting.now)) }
     ensures base { S.base closed.new ≡ S.base closed.old }
 {
     let _count = waiting.len();
@@ -52,36 +62,42 @@ fn admit_next<S: Closed>(
     let Some(change) = waiting.get(&hash) else {
         return Ok(false);
     };
-    gone.push(hash)?;
     let verdict = closed.judge(alloc, change)?;
     match why_not(verdict) {
         None => {
+            gone.joined.push(hash)?;
             closed.join(alloc, hash, change)?;
             pending.release(&hash)?;
         }
-        Some(why) => rejected.push(Rejected { hash, why })?,
+        Some(why) => {
+            gone.turned_away.push(hash)?;
+            rejected.push(Rejected { hash, why })?;
+        }
     }
     Ok(true)
 }
 
-/// Admits or rejects until no change is ready. Answers the hashes of the changes that wait no longer; the map still has
-/// them.
+/// Admits or rejects until no change is ready. Answers which changes wait no longer; the map still has them.
 pub fn settle_all<S: Closed>(
     alloc: Global,
     closed: &mut S,
     waiting: &BTreeMap<Hash, Change>,
     pending: &mut Pending,
     rejected: &mut Vec<Rejected>,
-) -> Result<Vec<Hash>, AllocError>
+) -> Result<Gone, AllocError>
     requires tracks { Tracks (S.members closed.old) (waiting_of waiting.now) (tracker pending.old) }
     requires valid { Valid (S.members closed.old) }
     requires waits { All (Waits (S.members closed.old)) (waiting_of waiting.now) }
     ensures settles { let old : Sets = record { closed = S.members closed.old; waiting = waiting_of waiting.now; rejected = vec_items rejected.old } in
-        IfOk result (λ gone. ◌≡◌ {A = Sets} (record { closed = S.members closed.new; waiting = remaining (vec_items gone) (waiting_of waiting.now); rejected = vec_items rejected.new }) (settle old)) }
-    ensures tracks { IfOk result (λ gone. Tracks (S.members closed.new) (remaining (vec_items gone) (waiting_of waiting.now)) (tracker pending.new)) }
+        IfOk result (λ gone. ◌≡◌ {A = Sets} (record { closed = S.members closed.new; waiting = remaining (all_gone gone) (waiting_of waiting.now); rejected = vec_items rejected.new }) (settle old)) }
+    ensures tracks { IfOk result (λ gone. Tracks (S.members closed.new) (remaining (all_gone gone) (waiting_of waiting.now)) (tracker pending.new)) }
+    ensures joined { IfOk result (λ gone. S.members closed.new ≡ S.members closed.old ++ taken_out (vec_items gone.joined) (waiting_of waiting.now)) }
     ensures base { S.base closed.new ≡ S.base closed.old }
 {
-    let mut gone = Vec::new(alloc);
+    let mut gone = Gone {
+        joined: Vec::new(alloc),
+        turned_away: Vec::new(alloc),
+    };
     while admit_next(alloc, closed, waiting, &mut gone, pending, rejected)? {}
     Ok(gone)
 }

@@ -31,6 +31,7 @@ fn compared<S: Closed>(
     hash: &Hash,
     change: &Change,
 ) -> Result<Option<bool>, AllocError>
+    requires { S.members closed.now ≡ S.base closed.now }
     ensures { IfOk result (λ same. same ≡ option_map (λ m. same_change m.change change.now) (member (S.members closed.now ++ waiting_of waiting.now) hash.now)) }
 {
     if closed.holds(hash) {
@@ -93,6 +94,7 @@ fn receive_one<S: Closed>(
     hash: Hash,
     change: Change,
 ) -> Result<(), AllocError>
+    requires rest { S.members closed.now ≡ S.base closed.now }
     requires fine { Fine change }
     requires tracks { Tracks (S.members closed.now) (waiting_of waiting.old) (tracker pending.old) }
     ensures alike { let old : Sets = record { closed = S.members closed.now; waiting = waiting_of waiting.old; rejected = vec_items rejected.old } in
@@ -127,6 +129,7 @@ pub fn receive_all<S: Closed>(
     rejected: &mut Vec<Rejected>,
     changes: Vec<(Hash, Change)>,
 ) -> Result<(), AllocError>
+    requires rest { S.members closed.now ≡ S.base closed.now }
     requires stored { AreStored (S.members closed.now) (waiting_of waiting.old) }
     requires may_come { All MayCome (members_of (vec_items changes)) }
     requires tracks { Tracks (S.members closed.now) (waiting_of waiting.old) (tracker pending.old) }

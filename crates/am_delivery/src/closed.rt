@@ -9,19 +9,21 @@ ghost use Rattle.am_types.specs.ValidSets.{Valid, Joins};
 use am_types::{Change, Hash, Verdict};
 use std::alloc::{AllocError, Global};
 
-/// A closed set of changes that can grow.
+/// A closed set of changes that can grow. It is at rest where its members are its base: no change has joined it since it
+/// was handed over. Only at rest is it asked for a change, so it needn't keep those that join it.
 pub trait Closed {
     ghost members: { Self → List Member };
 
-    // What stays as it is while changes join.
+    // The members at rest, which stay as they are while changes join.
     ghost base: { Self → List Member };
 
     /// Whether a change has this hash.
     fn holds(&self, hash: &Hash) -> bool
         ensures { result ≡ holds (members self.now) hash.now };
 
-    /// Whether the change that has this hash is equal to that one.
+    /// Whether the change that has this hash is equal to that one. The set is at rest.
     fn is_same(&self, alloc: Global, hash: &Hash, change: &Change) -> Result<bool, AllocError>
+        requires rest { members self.now ≡ base self.now }
         requires held { IsTrue (holds (members self.now) hash.now) }
         ensures same { IfOk result (λ same. option_map (λ m. same_change m.change change.now) (member (members self.now) hash.now) ≡ Some same) };
 

@@ -1,18 +1,27 @@
 //! A whole delivery.
-ghost use Rattle.std.specs.Prelude.{◌≡◌, All, IfOk, OnOk, OnErr, IsPermutation, None, vec_items};
+ghost use Rattle.std.specs.Prelude.{◌≡◌, ◌≤◌, ◌+◌, ◌++◌, [], All, IfOk, OnOk, OnErr, IsPermutation, None, length, vec_capacity, vec_items, vec_len};
 ghost use Rattle.am_types.specs.Deliver.{MayCome, AreStored, deliver as delivered};
 ghost use Rattle.am_delivery.specs.Tracking.{Tracks};
 ghost use Rattle.am_delivery.specs.Views.{tracker};
-ghost use Rattle.am_delivery.specs.Waiting.{members_of, waiting_of, remaining, IsTracked};
+ghost use Rattle.am_delivery.specs.Waiting.{members_of, waiting_of, remaining, taken_out, all_gone, IsTracked};
 
-use crate::admitting::settle_all;
+use crate::admitting::{Gone, settle_all};
 use crate::arriving::{lacking, receive_all};
 use crate::closed::Closed;
 use crate::pending::Pending;
-use crate::removing::remove_all;
+use crate::removing::{move_all, remove_all};
 use am_types::{Change, Hash, List, Rejected};
 use std::alloc::{AllocError, Global};
 use std::collections::BTreeMap;
+
+/// What a delivery has come to.
+#[derive(Drop)]
+pub struct Settled {
+    /// The changes that have joined, each beside its hash, in the order in which they joined.
+    pub joined: Vec<(Hash, Change)>,
+    /// What was rejected, in order.
+    pub rejected: List<Rejected>,
+}
 
 /// What the waiting changes lack.
 fn enter_all<S: Closed>(
@@ -52,8 +61,10 @@ fn take_pending<S: Closed>(
 /// What is left to do when nothing can fail any more.
 #[derive(Drop)]
 struct Outcome {
-    /// The hashes of the changes that wait no longer.
-    gone: Vec<Hash>,
+    /// Which changes wait no longer.
+    gone: Gone,
+    /// Room for those that have joined.
+    room: Vec<(Hash, Change)>,
     /// What was rejected.
     rejected: Vec<Rejected>,
 }
@@ -68,15 +79,19 @@ fn take_in<S: Closed>(
     came: &mut Vec<Hash>,
     changes: Vec<(Hash, Change)>,
 ) -> Result<Outcome, AllocError>
+    requires rest { S.members closed.old ≡ S.base closed.old }
     requires stored { AreStored (S.members closed.old) (waiting_of waiting.old) }
     requires may_come { All MayCome (members_of (vec_items changes)) }
     requires tracks { Tracks (S.members closed.old) (waiting_of waiting.old) (tracker pending.old) }
     ensures closed { OnOk result (S.members closed.new ≡ (delivered (S.members closed.old) (waiting_of waiting.old) (members_of (vec_items changes))).closed) }
-    ensures waiting { IfOk result (λ o. IsPermutation (delivered (S.members closed.old) (waiting_of waiting.old) (members_of (vec_items changes))).waiting (remaining (vec_items o.gone) (waiting_of waiting.new))) }
+    ensures waiting { IfOk result (λ o. IsPermutation (delivered (S.members closed.old) (waiting_of waiting.old) (members_of (vec_items changes))).waiting (remaining (all_gone o.gone) (waiting_of waiting.new))) }
     ensures rejected { IfOk result (λ o. vec_items o.rejected ≡ (delivered (S.members closed.old) (waiting_of waiting.old) (members_of (vec_items changes))).rejected) }
-    ensures stored { IfOk result (λ o. AreStored (S.members closed.new) (remaining (vec_items o.gone) (waiting_of waiting.new))) }
+    ensures joined { IfOk result (λ o. S.members closed.new ≡ S.members closed.old ++ taken_out (vec_items o.gone.joined) (waiting_of waiting.new)) }
+    ensures empty { IfOk result (λ o. vec_items o.room ≡ []) }
+    ensures room { IfOk result (λ o. vec_len o.room + length (vec_items o.gone.joined) ≤ vec_capacity o.room) }
+    ensures stored { IfOk result (λ o. AreStored (S.members closed.new) (remaining (all_gone o.gone) (waiting_of waiting.new))) }
     ensures base { S.base closed.new ≡ S.base closed.old }
-    ensures tracks { IfOk result (λ o. Tracks (S.members closed.new) (remaining (vec_items o.gone) (waiting_of waiting.new)) (tracker pending.new)) }
+    ensures tracks { IfOk result (λ o. Tracks (S.members closed.new) (remaining (all_gone o.gone) (waiting_of waiting.new)) (tracker pending.new)) }
     ensures kept { remaining (vec_items came.new) (waiting_of waiting.new) ≡ remaining (vec_items came.old) (waiting_of waiting.old) }
 {
     let mut rejected = Vec::new(alloc);
@@ -90,29 +105,36 @@ fn take_in<S: Closed>(
         changes,
     )?;
     let gone = settle_all(alloc, closed, waiting, pending, &mut rejected)?;
-    Ok(Outcome { gone, rejected })
+    let room = Vec::with_capacity(alloc, gone.joined.len())?;
+    Ok(Outcome {
+        gone,
+        room,
+        rejected,
+    })
 }
 
-/// Delivers changes, each beside its hash, to a closed set and the changes that wait beside it, and answers what was
-/// rejected, in order. A change that is held is skipped, and one whose hash another change has is rejected; the others
-/// wait. Then the ready changes, the one of least hash first, join the closed set or are rejected, until none is ready.
-/// What the waiting changes lack is kept in `pending` from delivery to delivery. It takes time in proportion to n log n,
-/// where n changes and dependencies come or wait no longer, beside what the closed set takes; where nothing is kept, all
-/// waiting changes count. Without memory the same changes wait as before, nothing is kept of what they lack, and of the
-/// closed set only what stays is known.
+/// Delivers changes, each beside its hash, to a closed set at rest and the changes that wait beside it, and hands out
+/// those that have joined. A change that is held is skipped, and one whose hash another change has is rejected; the
+/// others wait. Then the ready changes, the one of least hash first, join the closed set or are rejected, until none is
+/// ready. What the waiting changes lack is kept in `pending` from delivery to delivery. It takes time in proportion to
+/// n log n, where n changes and dependencies come or wait no longer, beside what the closed set takes; where nothing is
+/// kept, all waiting changes count. Without memory the same changes wait as before, nothing is kept of what they lack,
+/// and of the closed set only what stays is known.
 pub fn deliver<S: Closed>(
     alloc: Global,
     closed: &mut S,
     waiting: &mut BTreeMap<Hash, Change>,
     pending: &mut Option<Pending>,
     changes: Vec<(Hash, Change)>,
-) -> Result<List<Rejected>, AllocError>
+) -> Result<Settled, AllocError>
+    requires rest { S.members closed.old ≡ S.base closed.old }
     requires stored { AreStored (S.members closed.old) (waiting_of waiting.old) }
     requires tracked { IsTracked (S.members closed.old) (waiting_of waiting.old) pending.old }
     requires may_come { All MayCome (members_of (vec_items changes)) }
     ensures closed { OnOk result (S.members closed.new ≡ (delivered (S.members closed.old) (waiting_of waiting.old) (members_of (vec_items changes))).closed) }
     ensures waiting { OnOk result (IsPermutation (delivered (S.members closed.old) (waiting_of waiting.old) (members_of (vec_items changes))).waiting (waiting_of waiting.new)) }
-    ensures rejected { IfOk result (λ reports. reports ≡ (delivered (S.members closed.old) (waiting_of waiting.old) (members_of (vec_items changes))).rejected) }
+    ensures rejected { IfOk result (λ settled. settled.rejected ≡ (delivered (S.members closed.old) (waiting_of waiting.old) (members_of (vec_items changes))).rejected) }
+    ensures joined { IfOk result (λ settled. S.members closed.new ≡ S.members closed.old ++ members_of (vec_items settled.joined)) }
     ensures stored { OnOk result (AreStored (S.members closed.new) (waiting_of waiting.new)) }
     ensures tracked { OnOk result (IsTracked (S.members closed.new) (waiting_of waiting.new) pending.new) }
     ensures base { S.base closed.new ≡ S.base closed.old }
@@ -123,9 +145,18 @@ pub fn deliver<S: Closed>(
     let mut came = Vec::new(alloc);
     match take_in(alloc, closed, waiting, &mut lacking, &mut came, changes) {
         Ok(outcome) => {
-            remove_all(waiting, outcome.gone.as_slice());
+            let Outcome {
+                gone,
+                room: mut joined,
+                rejected,
+            } = outcome;
+            move_all(waiting, gone.joined.as_slice(), &mut joined);
+            remove_all(waiting, gone.turned_away.as_slice());
             *pending = Some(lacking);
-            Ok(List::from(outcome.rejected))
+            Ok(Settled {
+                joined,
+                rejected: List::from(rejected),
+            })
         }
         Err(error) => {
             remove_all(waiting, came.as_slice());

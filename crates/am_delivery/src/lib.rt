@@ -11,7 +11,7 @@ mod removing;
 
 pub use arriving::is_same;
 pub use closed::Closed;
-pub use delivering::deliver;
+pub use delivering::{Settled, deliver};
 pub use laws::{
     both_come_back, comes_back, fits_in_every_listing, held_is_skipped, joined_is_valid,
     joins_no_more, keeps_what_came, listing_is_free, order_is_free, part_is_valid, rest_completes,

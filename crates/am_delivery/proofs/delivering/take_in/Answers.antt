@@ -1,6 +1,6 @@
 use Rattle.std.proofs.Common.{rules, vec_items, refl}
 use Rattle.am_types.specs.Deliver.{Sets}
-use Rattle.am_delivery.specs.Waiting.{members_of, waiting_of, remaining}
+use Rattle.am_delivery.specs.Waiting.{members_of, waiting_of, remaining, all_gone}
 use Rattle.am_delivery.proofs.Ends.{from_nothing, waits, ends_closed, ends_waiting, ends_rejected, ends_stored}
 use Rattle.am_delivery.proofs.delivering.take_in.Goals as goal
 
@@ -18,7 +18,7 @@ returns-clause-closed g c =
     let W = waiting_of c.args.waiting.now in
     let L = members_of (vec_items c.args.changes) in
     let t : Sets = record { closed = C; waiting = waiting_of c.receive_all.new.waiting; rejected = vec_items c.receive_all.new.rejected } in
-    let new : Sets = record { closed = g.S.Closed.members c.settle_all.new.closed; waiting = remaining (vec_items c.in_ok-gone.gone) (waiting_of c.receive_all.new.waiting); rejected = vec_items c.settle_all.new.rejected } in
+    let new : Sets = record { closed = g.S.Closed.members c.settle_all.new.closed; waiting = remaining (all_gone c.in_ok-gone.gone) (waiting_of c.receive_all.new.waiting); rejected = vec_items c.settle_all.new.rejected } in
     ends_closed C W L c.requires.stored c.requires.may_come t refl (from_nothing C W L t (vec_items c.new-rejected.result) (search rules) c.in_ok-receive_all.ensures.alike) new c.in_ok-gone.ensures.settles
 
 pub returns-clause-waiting : goal.returns-clause-waiting
@@ -27,7 +27,7 @@ returns-clause-waiting g c =
     let W = waiting_of c.args.waiting.now in
     let L = members_of (vec_items c.args.changes) in
     let t : Sets = record { closed = C; waiting = waiting_of c.receive_all.new.waiting; rejected = vec_items c.receive_all.new.rejected } in
-    let new : Sets = record { closed = g.S.Closed.members c.settle_all.new.closed; waiting = remaining (vec_items c.in_ok-gone.gone) (waiting_of c.receive_all.new.waiting); rejected = vec_items c.settle_all.new.rejected } in
+    let new : Sets = record { closed = g.S.Closed.members c.settle_all.new.closed; waiting = remaining (all_gone c.in_ok-gone.gone) (waiting_of c.receive_all.new.waiting); rejected = vec_items c.settle_all.new.rejected } in
     ends_waiting C W L c.requires.stored c.requires.may_come t refl (from_nothing C W L t (vec_items c.new-rejected.result) (search rules) c.in_ok-receive_all.ensures.alike) new c.in_ok-gone.ensures.settles
 
 pub returns-clause-rejected : goal.returns-clause-rejected
@@ -36,7 +36,7 @@ returns-clause-rejected g c =
     let W = waiting_of c.args.waiting.now in
     let L = members_of (vec_items c.args.changes) in
     let t : Sets = record { closed = C; waiting = waiting_of c.receive_all.new.waiting; rejected = vec_items c.receive_all.new.rejected } in
-    let new : Sets = record { closed = g.S.Closed.members c.settle_all.new.closed; waiting = remaining (vec_items c.in_ok-gone.gone) (waiting_of c.receive_all.new.waiting); rejected = vec_items c.settle_all.new.rejected } in
+    let new : Sets = record { closed = g.S.Closed.members c.settle_all.new.closed; waiting = remaining (all_gone c.in_ok-gone.gone) (waiting_of c.receive_all.new.waiting); rejected = vec_items c.settle_all.new.rejected } in
     ends_rejected C W L c.requires.stored c.requires.may_come t refl (from_nothing C W L t (vec_items c.new-rejected.result) (search rules) c.in_ok-receive_all.ensures.alike) new c.in_ok-gone.ensures.settles
 
 pub returns-clause-stored : goal.returns-clause-stored
@@ -45,5 +45,5 @@ returns-clause-stored g c =
     let W = waiting_of c.args.waiting.now in
     let L = members_of (vec_items c.args.changes) in
     let t : Sets = record { closed = C; waiting = waiting_of c.receive_all.new.waiting; rejected = vec_items c.receive_all.new.rejected } in
-    let new : Sets = record { closed = g.S.Closed.members c.settle_all.new.closed; waiting = remaining (vec_items c.in_ok-gone.gone) (waiting_of c.receive_all.new.waiting); rejected = vec_items c.settle_all.new.rejected } in
+    let new : Sets = record { closed = g.S.Closed.members c.settle_all.new.closed; waiting = remaining (all_gone c.in_ok-gone.gone) (waiting_of c.receive_all.new.waiting); rejected = vec_items c.settle_all.new.rejected } in
     ends_stored C W L c.requires.stored c.requires.may_come t refl (from_nothing C W L t (vec_items c.new-rejected.result) (search rules) c.in_ok-receive_all.ensures.alike) new c.in_ok-gone.ensures.settles
