@@ -2,6 +2,7 @@
 use Rattle.std.proofs.Common.{◌≡◌, ◌∙◌, ℕ, List, [], ◌∷◌, get_or, Bool, true, false, cond, Option, Some, None, Result, Ok, Err, find, not, refl, sym, ap, subst, Contains}
 use Rattle.std.specs.Prelude.{All, IsTrue, IfSome, IfOk, OnOk, OnErr}
 use Rattle.std.proofs.lemmas.List.Elements.{All-head, All-tail, All-cons, All-nil, All-take, All-contains, Contains-get_or}
+use Rattle.std.proofs.lemmas.List.Sorted.{Contains-permutation}
 use Rattle.std.proofs.lemmas.Map.Views.{Contains-from_lookup}
 use Rattle.am_types.specs.declared.Change.{Change}
 use Rattle.am_types.specs.declared.Hash.{Hash}
@@ -9,6 +10,7 @@ use Rattle.am_types.specs.Operations.{all_operations}
 use Rattle.am_types.specs.Members.{Member, changes, holds}
 use Rattle.am_types.specs.Replay.{replay}
 use Rattle.am_types.specs.ValidSets.{Valid}
+use Rattle.am_types.specs.Deliver.{deliver}
 use Rattle.am_laws.specs.Laws.{ViewsStay}
 use Rattle.am_delivery.proofs.Members.{holds_within}
 use Rattle.am_change.specs.Hashes.{with_hashes}
@@ -140,7 +142,7 @@ grown_within C D keeps = λ k d lt. keeps (get_or C k d) (Contains-get_or C k d 
 texts_delivered : ViewsStay → (old new : Kept) (cs : List Change) (report : Report) (c : cache.Kept) → IsKept old → IsKept new → Delivered old cs report new → AreTexts old.closed c → AreTexts new.closed c
 texts_delivered stays old new cs report c before after left all =
     texts_stay stays old.closed new.closed before.stored.valid after.stored.valid
-    (grown_within old.closed new.closed (λ x h. subst (λ D. Contains D x) (sym left.closed) (deliver_keeps old.closed old.waiting (with_hashes cs) x h)))
+    (grown_within old.closed new.closed (λ x h. Contains-permutation (deliver old.closed old.waiting (with_hashes cs)).closed new.closed x left.closed (deliver_keeps old.closed old.waiting (with_hashes cs) x h)))
     c all
 
 -- after a file was read, whether its changes were delivered or not

@@ -24,7 +24,7 @@ module _ (free : ListingIsFree) (old new : Kept) (L : List Member) (report : Rep
       record {
         may_come = All-append (All MayCome) Ls (L ∷ []) s.may_come (All-cons (All MayCome) L [] come (All-nil (All MayCome)));
         closed = subst (λ (t : Sets). IsPermutation t.closed new.closed) (sym e)
-            (subst (IsPermutation there.closed) (sym takes.closed) (IsPermutation-sym here.closed there.closed alike.closed));
+            (IsPermutation-trans there.closed here.closed new.closed (IsPermutation-sym here.closed there.closed alike.closed) takes.closed);
         waiting = subst (λ (t : Sets). IsPermutation t.waiting new.waiting) (sym e)
             (IsPermutation-trans there.waiting here.waiting new.waiting (IsPermutation-sym here.waiting there.waiting alike.waiting) takes.waiting);
       }

@@ -3,12 +3,12 @@ use Rattle.std.proofs.Common.{ℕ, ◌≡◌, ◌<◌, ◌≤◌, ◌^◌, false
 use Rattle.std.specs.List.{AllByRecursion, AllZip}
 use Rattle.std.specs.Ordering.{on}
 use Rattle.std.proofs.lemmas.List.{map-append}
-use Rattle.std.proofs.lemmas.List.Elements.{All-nil, All-contains, Contains-append_left, recursion_from_All, All-from_recursion}
+use Rattle.std.proofs.lemmas.List.Elements.{All-contains, Contains-append_left, recursion_from_All, All-from_recursion}
 use Rattle.std.proofs.lemmas.List.Sorted.{IsPermutation-trans, IsPermutation-append, All-permutation}
 use Rattle.am_types.specs.declared.Change.{Change}
 use Rattle.am_types.specs.declared.Table.{Table}
 use Rattle.am_types.specs.Order.{hash_cmp, sorted_by}
-use Rattle.am_types.specs.Members.{Member, changes, heads, DistinctHashes}
+use Rattle.am_types.specs.Members.{Member, changes, heads}
 use Rattle.am_types.specs.ValidSets.{Valid}
 use Rattle.am_types.specs.Canonical.{canonical_cmp, order}
 use Rattle.am_types.specs.Deliver.{MayCome, deliver}
@@ -32,6 +32,7 @@ use Rattle.am_store.specs.Files.{HoldsDocument, Holds, IsFile}
 use Rattle.am_store.specs.Laws.{OneReading}
 use Rattle.am_store.specs.Saved.{document, chunks, saved_all}
 use Rattle.am_store.specs.Inversion.{saved_changes, IsReadBack, DocumentsAreReadBack, FilesAreReadBack}
+use Rattle.am_store.proofs.Adopting.{alone_kept}
 
 -- ---- members beside their own hashes
 
@@ -171,7 +172,7 @@ module _ (spell : ContentsSpell) (judges : JudgesOnce) (is_history : DocumentIsH
       again = λ cs report new f d.
           let l = leaves cs (reading.changes false (saved_all k) cs (saved_changes k) f is_file) in
           record {
-            closed = subst (IsPermutation k.closed) (sym d.closed) l.closed;
+            closed = IsPermutation-trans k.closed (deliver [] [] (with_hashes cs)).closed new.closed l.closed d.closed;
             waiting = IsPermutation-trans k.waiting (deliver [] [] (with_hashes cs)).waiting new.waiting l.waiting d.waiting;
             rejected = d.rejected ∙ l.rejected;
           };
@@ -179,22 +180,11 @@ module _ (spell : ContentsSpell) (judges : JudgesOnce) (is_history : DocumentIsH
 
   -- ---- a set without waiting changes
 
-  alone_kept : (C : List Member) → Valid C → HasOwnHashes C → IsKept (record { closed = C; waiting = [] })
-  alone_kept C v own = record {
-    stored = record {
-      valid = v;
-      waiting = All-nil MayCome;
-      hashes = subst DistinctHashes (sym (append-nil C)) (rules C v).hashes;
-      settled = refl;
-    };
-    own_hashes = subst HasOwnHashes (sym (append-nil C)) own;
-  }
-
   pub documents : DocumentsAreReadBack
   documents C v own s =
       let k : Kept = record { closed = C; waiting = [] } in
       let same : saved_all k ≡ document C = append-nil (document C) in
-      subst (λ b. IsReadBack b k) same (read_back k (alone_kept C v own) (subst (λ b. length b < 2 ^ 64) (sym same) s))
+      subst (λ b. IsReadBack b k) same (read_back k (alone_kept rules C v own) (subst (λ b. length b < 2 ^ 64) (sym same) s))
 
   pub files : FilesAreReadBack
   files k is s = read_back k is s

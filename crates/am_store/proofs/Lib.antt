@@ -1,3 +1,4 @@
+pub mod Adopting
 pub mod AnyOrder
 pub mod Authors
 pub mod Chunking

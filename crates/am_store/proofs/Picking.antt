@@ -49,9 +49,6 @@ pub entry_found : (es : List (Hash × Change)) (h : Hash) (place : ℕ) (d : Has
 entry_found es h place d l e =
     ap (option_map change_of) (e ∙ slice_get-map member_of es place ∙ ap (option_map member_of) (slice_get-get_or es place d (place_within es place l)))
 
-pub entry_is : (es : List (Hash × Change)) (h : Hash) (place : ℕ) (e : Hash × Change) → member (members_of es) h ≡ slice_get (members_of es) place → slice_get es place ≡ Some e → found (members_of es) h ≡ Some e.1
-entry_is es h place e at is = ap (option_map change_of) (at ∙ slice_get-map member_of es place ∙ ap (option_map member_of) is)
-
 -- a look-up tells whether the change that it gives is equal to another
 pub told_same : (es : List (Hash × Change)) (h : Hash) (c d : Change) → found (members_of es) h ≡ Some d → option_map (λ m. same_change m.change c) (member (members_of es) h) ≡ Some (same_change d c)
 told_same es h c d = told (member (members_of es) h)

@@ -2,7 +2,7 @@
 use Rattle.std.proofs.Common.{ℕ, ◌≡◌, ◌≤◌, ◌+◌, Option, List, [], ◌++◌, length, get_or, Contains, IsPermutation, BTreeMap, refl, sym, ap, ◌∙◌, subst, inl, inr, arith}
 use Rattle.std.proofs.lemmas.List.{map-append, append-nil, length-append, length-map}
 use Rattle.std.proofs.lemmas.List.Elements.{All-map, All-contains, Contains-get_or, Contains-append_left, Contains-append_right, Contains-append_cases}
-use Rattle.std.proofs.lemmas.List.Sorted.{IsPermutation-sym, Contains-permutation}
+use Rattle.std.proofs.lemmas.List.Sorted.{IsPermutation-refl, IsPermutation-sym, Contains-permutation}
 use Rattle.am_types.specs.declared.Hash.{Hash}
 use Rattle.am_types.specs.declared.Change.{Change}
 use Rattle.am_types.specs.declared.Rejected.{Rejected}
@@ -36,7 +36,7 @@ own_left C W L D V keeps own came e p k d l =
 
 -- nothing has joined yet, and the waiting changes are copied
 module _ (old : List (Hash × Change)) (w v : BTreeMap Hash Change) (copied : v.entries ≡ w.entries) where
-  same_closed : members_of (old ++ []) ≡ members_of old
+  pub same_closed : members_of (old ++ []) ≡ members_of old
   same_closed = ap members_of (append-nil old)
 
   same_waiting : waiting_of v ≡ waiting_of w
@@ -48,60 +48,60 @@ module _ (old : List (Hash × Change)) (w v : BTreeMap Hash Change) (copied : v.
   pub begins_tracked : (pending : Option Pending) → IsTracked (members_of old) (waiting_of w) pending → IsTracked (members_of (old ++ [])) (waiting_of v) pending
   begins_tracked pending t = subst (λ C. IsTracked C (waiting_of v) pending) (sym same_closed) (subst (λ W. IsTracked (members_of old) W pending) (sym same_waiting) t)
 
-  -- `fresh` have joined, and u wait
-  module _ (kept fresh : List (Hash × Change)) (u : BTreeMap Hash Change) (L : List Member)
-      (closed : members_of (kept ++ fresh) ≡ (deliver (members_of (old ++ [])) (waiting_of v) L).closed)
+  -- C is closed now, of which `joined` have joined, and u wait
+  module _ (C : List Member) (joined : List (Hash × Change)) (u : BTreeMap Hash Change) (L : List Member)
+      (closed : C ≡ (deliver (members_of (old ++ [])) (waiting_of v) L).closed)
       (waiting : IsPermutation (deliver (members_of (old ++ [])) (waiting_of v) L).waiting (waiting_of u))
-      (stored : AreStored (members_of (kept ++ fresh)) (waiting_of u))
-      (base : members_of kept ≡ members_of old) where
+      (stored : AreStored C (waiting_of u))
+      (more : C ≡ members_of (old ++ []) ++ members_of joined) where
     abbrev outcome : Sets
     outcome = deliver (members_of old) (waiting_of w) L
 
     begun : deliver (members_of (old ++ [])) (waiting_of v) L ≡ outcome
     begun = λ i. deliver (same_closed i) (same_waiting i) L
 
-    whole : members_of (kept ++ fresh) ≡ members_of (old ++ fresh)
-    whole = map-append member_of kept fresh ∙ ap (λ l. l ++ members_of fresh) base ∙ sym (map-append member_of old fresh)
+    whole : C ≡ members_of (old ++ joined)
+    whole = more ∙ ap (λ l. l ++ members_of joined) same_closed ∙ sym (map-append member_of old joined)
 
-    new_closed : members_of (old ++ fresh) ≡ outcome.closed
+    new_closed : members_of (old ++ joined) ≡ outcome.closed
     new_closed = sym whole ∙ closed ∙ ap (λ (s : Sets). s.closed) begun
 
     new_waiting : IsPermutation outcome.waiting (waiting_of u)
     new_waiting = subst (λ (s : Sets). IsPermutation s.waiting (waiting_of u)) begun waiting
 
-    pub kept_after : KeepsWhatCame → HasOwnHashes (members_of old ++ waiting_of w) → HasOwnHashes L → IsKept (record { closed = members_of (old ++ fresh); waiting = waiting_of u })
+    pub kept_after : KeepsWhatCame → HasOwnHashes (members_of old ++ waiting_of w) → HasOwnHashes L → IsKept (record { closed = members_of (old ++ joined); waiting = waiting_of u })
     kept_after keeps own came = record {
       stored = subst (λ C. AreStored C (waiting_of u)) whole stored;
-      own_hashes = own_left (members_of old) (waiting_of w) L (members_of (old ++ fresh)) (waiting_of u) keeps own came new_closed new_waiting;
+      own_hashes = own_left (members_of old) (waiting_of w) L (members_of (old ++ joined)) (waiting_of u) keeps own came new_closed new_waiting;
     }
 
-    pub tracked_after : (pending : Option Pending) → IsTracked (members_of (kept ++ fresh)) (waiting_of u) pending → IsTracked (members_of (old ++ fresh)) (waiting_of u) pending
+    pub tracked_after : (pending : Option Pending) → IsTracked C (waiting_of u) pending → IsTracked (members_of (old ++ joined)) (waiting_of u) pending
     tracked_after pending t = subst (λ C. IsTracked C (waiting_of u) pending) whole t
 
     -- no more have joined than waited and came
-    pub few_joined : JoinsNoMore → length fresh ≤ length w.entries + length L
+    pub few_joined : JoinsNoMore → length joined ≤ length w.entries + length L
     few_joined few =
         let least = few (members_of old) (waiting_of w) L in
         let same_length = ap length new_closed in
         let a = length-map old member_of in
-        let b = length-map (old ++ fresh) member_of in
-        let c = length-append old fresh in
+        let b = length-map (old ++ joined) member_of in
+        let c = length-append old joined in
         let d = length-map w.entries member_of in
         omega arith
 
-    pub of_after : (g : List (Hash × Node)) (ix : Indexed) → AreOf (members_of (kept ++ fresh)) g ix → AreOf (members_of (old ++ fresh)) g ix
+    pub of_after : (g : List (Hash × Node)) (ix : Indexed) → AreOf C g ix → AreOf (members_of (old ++ joined)) g ix
     of_after g ix a = subst (λ C. AreOf C g ix) whole a
 
-    pub takes : (R : List Rejected) (n k : ℕ) → R ≡ (deliver (members_of (old ++ [])) (waiting_of v) L).rejected → n ≡ length fresh → k ≡ length (waiting_of u)
-        → Takes (record { closed = members_of old; waiting = waiting_of w }) L (record { added = n; waiting = k; rejected = R }) (record { closed = members_of (old ++ fresh); waiting = waiting_of u })
-    takes R n k rejected joined wait = record {
-      closed = new_closed;
+    pub takes : (R : List Rejected) (n k : ℕ) → R ≡ (deliver (members_of (old ++ [])) (waiting_of v) L).rejected → n ≡ length joined → k ≡ length (waiting_of u)
+        → Takes (record { closed = members_of old; waiting = waiting_of w }) L (record { added = n; waiting = k; rejected = R }) (record { closed = members_of (old ++ joined); waiting = waiting_of u })
+    takes R n k rejected count wait = record {
+      closed = subst (IsPermutation outcome.closed) (sym new_closed) (IsPermutation-refl outcome.closed);
       waiting = new_waiting;
       rejected = rejected ∙ ap (λ (s : Sets). s.rejected) begun;
       added =
           let a = length-map old member_of in
-          let b = length-map (old ++ fresh) member_of in
-          let c = length-append old fresh in
+          let b = length-map (old ++ joined) member_of in
+          let c = length-append old joined in
           omega arith;
       wait = wait;
     }

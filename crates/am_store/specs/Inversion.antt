@@ -1,5 +1,4 @@
 -- What a store saves is read back.
---     nothing                the two sets of an empty store
 --     saved_changes k        the changes of both sets, those of the closed set in canonical order, the others by hash
 --     IsAgain k report new   the sets new are k, each in some order, and nothing was rejected
 --     IsReadBack bytes k     the bytes are a file of the changes of k and of no other list, none of its chunks is bad, and
@@ -19,12 +18,9 @@ use Rattle.am_types.specs.Canonical.{order}
 use Rattle.am_change.specs.Judgement.{HasOwnHashes}
 use Rattle.am_store.specs.declared.fault.LoadFault.{LoadFault}
 use Rattle.am_store.specs.declared.report.Report.{Report}
-use Rattle.am_store.specs.Kept.{Kept, IsKept, Delivered}
+use Rattle.am_store.specs.Kept.{Kept, IsKept, Delivered, nothing}
 use Rattle.am_store.specs.Files.{IsFile, FirstBad}
 use Rattle.am_store.specs.Saved.{document, saved_all}
-
-abbrev pub nothing : Kept
-nothing = record { closed = []; waiting = [] }
 
 abbrev pub saved_changes : Kept → List Change
 saved_changes k = changes (order k.closed) ++ changes (sorted_by (on (λ m. m.hash) hash_cmp) k.waiting)

@@ -1,10 +1,12 @@
 -- What a store keeps, and what a delivery does to it.
 --     Kept                        the two sets of a store, closed and waiting
+--     nothing                     the two sets of an empty store
 --     IsKept k                    what holds of the two sets of each store
 --     counts_of k                 how many changes there are, and how many operations, predecessors and dependencies
---     Takes old L r new           the members L, delivered to the sets old, leave the sets new, with the report r
+--     Takes old L r new           the members L, delivered to the sets old, leave the sets new, each in some order, with the
+--                                 report r
 --     Delivered old cs r new      the same of the changes cs, each beside its own hash
-use Rattle.std.specs.Prelude.{◌≡◌, ◌+◌, List, ◌++◌, length, sum_by, IsPermutation}
+use Rattle.std.specs.Prelude.{◌≡◌, ◌+◌, List, [], ◌++◌, length, sum_by, IsPermutation}
 use Rattle.am_types.specs.declared.Change.{Change}
 use Rattle.am_types.specs.Fine.{pred_count}
 use Rattle.am_types.specs.Members.{Member, changes}
@@ -17,6 +19,9 @@ use Rattle.am_store.specs.declared.report.Counts.{Counts}
 pub record Kept : Type 0 where
   pub closed : List Member
   pub waiting : List Member
+
+abbrev pub nothing : Kept
+nothing = record { closed = []; waiting = [] }
 
 -- the closed set is valid, the waiting changes are fine and lack a dependency, hashes are distinct, and each change
 -- stands beside its own
@@ -34,7 +39,7 @@ counts_of k = record {
 }
 
 pub record Takes (old : Kept) (L : List Member) (report : Report) (new : Kept) : Type 0 where
-  pub closed : new.closed ≡ (deliver old.closed old.waiting L).closed
+  pub closed : IsPermutation (deliver old.closed old.waiting L).closed new.closed
   pub waiting : IsPermutation (deliver old.closed old.waiting L).waiting new.waiting
   pub rejected : report.rejected ≡ (deliver old.closed old.waiting L).rejected
   pub added : length old.closed + report.added ≡ length new.closed

@@ -1,3 +1,4 @@
+pub mod Adopting
 pub mod AnyOrder
 pub mod Files
 pub mod Grown

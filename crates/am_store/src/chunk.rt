@@ -1,5 +1,5 @@
 //! The first chunk of a file.
-ghost use Rattle.std.specs.Prelude.{◌≡◌, ◌<◌, Bool, false, List, ℕ, length, IfOk, OnOk, IfErr, vec_items};
+ghost use Rattle.std.specs.Prelude.{◌≡◌, ◌<◌, Bool, false, List, ℕ, length, IfOk, OnOk, IfErr};
 ghost use Rattle.am_types.specs.declared.Change.{Change as AChange};
 ghost use Rattle.am_frame.specs.Frames.{IsChunk, chunk_of};
 ghost use Rattle.am_frame.specs.Faults as frame;
@@ -9,11 +9,12 @@ ghost use Rattle.am_store.specs.Files.{HasFault};
 ghost use Rattle.am_store.specs.Reading.{MatchBad, IsWrongWith, GivesPairs, Appends, ReadsOne};
 
 use crate::fault::LoadFault;
+use crate::file_changes::FileChanges;
 use am_change::{ChangeFault, parse_change};
 use am_doc::{DocFault, DocRef, one_judgement};
 use am_frame::{FrameFault, next_frame};
-use am_rebuild::{RebuildFault, rebuild_hashed};
-use am_types::{Change, Hash, hash_known};
+use am_rebuild::{RebuildFault, rebuild_whole};
+use am_types::{Hash, hash_known};
 use std::alloc::{AllocError, Global};
 
 /// Why the first chunk of some bytes wasn't read.
@@ -55,11 +56,11 @@ fn push_change(
     alloc: Global,
     hash: Hash,
     contents: &[u8],
-    pairs: &mut Vec<(Hash, Change)>,
+    changes: &mut FileChanges,
 ) -> Result<(), ChunkFault>
     requires is_chunk { IsChunk (chunk_of 1 contents.now) }
     requires own { (c : AChange) → contents.now ≡ contents_of c → hash ≡ own_hash c }
-    ensures ok { (only : Bool) → OnOk result (Appends (GivesPairs only (chunk_of 1 contents.now)) (vec_items pairs.old) (vec_items pairs.new)) }
+    ensures ok { (only : Bool) → OnOk result (Appends (GivesPairs only (chunk_of 1 contents.now)) changes.old changes.new) }
     ensures bad { (only : Bool) → IfErr result (λ fault. MatchBad fault (IsWrongWith only (chunk_of 1 contents.now))) }
 {
     let change = match parse_change(alloc, contents) {
@@ -71,9 +72,7 @@ fn push_change(
         Err(ChangeFault::NoMemory) => return Err(ChunkFault::NoMemory),
     };
     hash_known(&hash);
-    if pairs.push((hash, change)).is_err() {
-        return Err(ChunkFault::NoMemory);
-    }
+    changes.push(hash, change)?;
     Ok(())
 }
 
@@ -81,10 +80,10 @@ fn push_change(
 fn push_document(
     alloc: Global,
     contents: &[u8],
-    pairs: &mut Vec<(Hash, Change)>,
+    changes: &mut FileChanges,
 ) -> Result<(), ChunkFault>
     requires { IsChunk (chunk_of 0 contents.now) }
-    ensures ok { OnOk result (Appends (GivesPairs false (chunk_of 0 contents.now)) (vec_items pairs.old) (vec_items pairs.new)) }
+    ensures ok { OnOk result (Appends (GivesPairs false (chunk_of 0 contents.now)) changes.old changes.new) }
     ensures bad { IfErr result (λ fault. MatchBad fault (IsWrongWith false (chunk_of 0 contents.now))) }
 {
     one_judgement();
@@ -93,15 +92,15 @@ fn push_document(
         Err(DocFault::CompressedColumn) => return Err(ChunkFault::Bad(LoadFault::CompressedColumn)),
         Err(DocFault::BadDocument) => return Err(ChunkFault::Bad(LoadFault::BadDocument)),
     };
-    let mut more = match rebuild_hashed(alloc, doc) {
-        Ok(more) => more,
+    let document = match rebuild_whole(alloc, doc) {
+        Ok(document) => document,
         Err(RebuildFault::NoHistory) => return Err(ChunkFault::Bad(LoadFault::NoHistory)),
         Err(RebuildFault::HeadsMismatch(hash)) => return Err(ChunkFault::Bad(
             LoadFault::HeadsMismatch(hash),
         )),
         Err(RebuildFault::NoMemory) => return Err(ChunkFault::NoMemory),
     };
-    pairs.append(&mut more)?;
+    changes.append(document)?;
     Ok(())
 }
 
@@ -110,9 +109,9 @@ pub fn read_chunk<'a>(
     alloc: Global,
     bytes: &'a [u8],
     only_changes: bool,
-    pairs: &mut Vec<(Hash, Change)>,
+    changes: &mut FileChanges,
 ) -> Result<&'a [u8], ChunkFault>
-    ensures ok { IfOk result (λ rest. ReadsOne bytes.now rest.now (λ chunk. Appends (GivesPairs only_changes chunk) (vec_items pairs.old) (vec_items pairs.new))) }
+    ensures ok { IfOk result (λ rest. ReadsOne bytes.now rest.now (λ chunk. Appends (GivesPairs only_changes chunk) changes.old changes.new)) }
     ensures shorter { IfOk result (λ rest. length rest.now < length bytes.now) }
     ensures bad { IfErr result (λ fault. MatchBad fault (HasFault only_changes bytes.now)) }
 {
@@ -121,12 +120,12 @@ pub fn read_chunk<'a>(
         Err(fault) => return Err(ChunkFault::Bad(fault_of(fault))),
     };
     if frame.kind == 1 {
-        push_change(alloc, frame.hash, frame.contents, pairs)?;
+        push_change(alloc, frame.hash, frame.contents, changes)?;
         return Ok(frame.rest);
     }
     if only_changes {
         return Err(ChunkFault::Bad(LoadFault::DocumentHere));
     }
-    push_document(alloc, frame.contents, pairs)?;
+    push_document(alloc, frame.contents, changes)?;
     Ok(frame.rest)
 }

@@ -1,5 +1,5 @@
 //! The changes of a file.
-ghost use Rattle.std.specs.Prelude.{◌≡◌, ℕ, Bool, List, All, IfOk, IfErr, vec_items};
+ghost use Rattle.std.specs.Prelude.{◌≡◌, ℕ, Bool, List, All, IfOk, IfErr};
 ghost use Rattle.am_types.specs.Deliver.{MayCome};
 ghost use Rattle.am_delivery.specs.Waiting.{members_of};
 ghost use Rattle.am_rebuild.specs.Documents.{changes_of, AreOwn};
@@ -9,7 +9,7 @@ ghost use Rattle.am_store.specs.Whole.{MatchLoad};
 
 use crate::chunk::{ChunkFault, read_chunk};
 use crate::fault::{LoadError, ReadFault};
-use am_types::{Change, Hash};
+use crate::file_changes::FileChanges;
 use std::alloc::Global;
 
 /// Why a file isn't read where this is wrong with the chunk of this number.
@@ -22,26 +22,22 @@ fn refused(chunk: u64, fault: ChunkFault) -> ReadFault
     }
 }
 
-/// The changes of a file, each behind its hash. All chunks share one list.
-pub fn changes_in(
-    alloc: Global,
-    bytes: &[u8],
-    only_changes: bool,
-) -> Result<Vec<(Hash, Change)>, ReadFault>
-    ensures ok { IfOk result (λ pairs. IsFile only_changes bytes.now (changes_of (vec_items pairs))) }
-    ensures own_hashes { IfOk result (λ pairs. AreOwn (vec_items pairs)) }
-    ensures may_come { IfOk result (λ pairs. All MayCome (members_of (vec_items pairs))) }
+/// The changes of a file. All chunks share one list.
+pub fn changes_in(alloc: Global, bytes: &[u8], only_changes: bool) -> Result<FileChanges, ReadFault>
+    ensures ok { IfOk result (λ changes. IsFile only_changes bytes.now (changes_of changes)) }
+    ensures own_hashes { IfOk result (λ changes. AreOwn changes) }
+    ensures may_come { IfOk result (λ changes. All MayCome (members_of changes)) }
     ensures load { IfErr result (λ fault. MatchLoad fault (λ e. FirstBad only_changes bytes.now e.chunk e.fault)) }
 {
-    let mut pairs = Vec::new(alloc);
+    let mut changes = FileChanges::new(alloc);
     let mut number = 1u64;
     let mut rest = bytes;
     'chunks: while !rest.is_empty() {
-        match read_chunk(alloc, rest, only_changes, &mut pairs) {
+        match read_chunk(alloc, rest, only_changes, &mut changes) {
             Ok(behind) => rest = behind,
             Err(fault) => return Err(refused(number, fault)),
         }
         number += 1;
     }
-    Ok(pairs)
+    Ok(changes)
 }

@@ -1,26 +1,26 @@
 //! The closed set of a store while a delivery lets it grow.
-ghost use Rattle.std.specs.Prelude.{◌≡◌, ◌<◌, ◌++◌, ◌∷◌, [], List, Some, true, OnOk, OnErr, length, option_map, slice_get};
-ghost use Rattle.am_types.specs.Members.{Member, member, holds};
-ghost use Rattle.am_types.specs.Same.{same_change};
+ghost use Rattle.std.specs.Prelude.{◌≡◌, ◌++◌, ◌∷◌, [], List, OnOk, OnErr};
+ghost use Rattle.am_types.specs.Members.{Member};
 ghost use Rattle.am_types.specs.ValidSets.{Valid};
-ghost use Rattle.am_graph.specs.Graphs.{nodes};
 ghost use Rattle.am_fits.specs.Indexes.{AreOf};
 ghost use Rattle.am_delivery.specs.Waiting.{members_of};
 ghost use Rattle.am_store.specs.Grown.{MayGrow};
 
+use crate::joined::Joined;
+use crate::lists::change_at;
 use am_delivery::{Closed, is_same, joined_is_valid};
 use am_fits::{OpIndex, Totals, fits};
 use am_graph::{Graph, valid_sets_have_distinct_seqs};
-use am_types::{Change, Hash, Twin, Verdict};
+use am_types::{Change, Hash, Verdict};
 use std::alloc::{AllocError, Global};
 use std::marker::Model;
 
-/// The changes that were there, which stay where they are, and those that have joined them, with the graph and the index
-/// of all. Contracts see the two lists.
+/// The changes that were there, which stay where they are, and the graph and the index of these and of those that have
+/// joined them. Contracts see the two lists; the code has the first alone.
 #[derive(Drop)]
 pub struct Growing<'a> {
     pub(crate) old: &'a [(Hash, Change)],
-    pub(crate) fresh: Vec<(Hash, Change)>,
+    pub(crate) fresh: Joined,
     pub(crate) graph: Graph,
     pub(crate) index: OpIndex,
     /// The totals of the changes that were there.
@@ -32,43 +32,9 @@ impl<'a> Model for Growing<'a> {
 
     ghost Value = { Grown };
 
-    ghost view = { λ g. record { old = g.old.now; fresh = g.fresh.items } };
+    ghost view = { λ g. record { old = g.old.now; fresh = g.fresh.entries } };
 
-    ghost invariant = { λ g. AreGrown g.old.now g.fresh.items g.graph g.index g.totals };
-}
-
-/// The entry at a place of one list and then another.
-fn entry_at<'a>(
-    old: &'a [(Hash, Change)],
-    fresh: &'a [(Hash, Change)],
-    place: usize,
-) -> &'a (Hash, Change)
-    requires { place < length (old.now ++ fresh.now) }
-    ensures { slice_get (old.now ++ fresh.now) place ≡ Some result.now }
-{
-    if place < old.len() {
-        &old[place]
-    } else {
-        &fresh[place - old.len()]
-    }
-}
-
-/// Whether the change with this hash is equal to that one.
-fn same_at(
-    graph: &Graph,
-    old: &[(Hash, Change)],
-    fresh: &[(Hash, Change)],
-    hash: &Hash,
-    change: &Change,
-) -> bool
-    requires of_set { graph.now ≡ nodes (members_of (old.now ++ fresh.now)) }
-    requires held { holds (members_of (old.now ++ fresh.now)) hash.now ≡ true }
-    ensures { option_map (λ m. same_change m.change change.now) (member (members_of (old.now ++ fresh.now)) hash.now) ≡ Some result }
-{
-    match graph.place(hash) {
-        Some(place) => is_same(&entry_at(old, fresh, place).1, change),
-        None => unreachable!(),
-    }
+    ghost invariant = { λ g. AreGrown g.old.now g.fresh.entries g.graph g.index g.totals };
 }
 
 /// Takes a change into both, or into neither.
@@ -103,37 +69,30 @@ fn enter(
     Ok(())
 }
 
-/// Takes a copy of a change in, behind those that are there. Without memory nothing has changed.
+/// Takes a change in, behind those that have joined. Without memory nothing has changed.
 fn grow(
     alloc: Global,
     graph: &mut Graph,
     index: &mut OpIndex,
-    fresh: &mut Vec<(Hash, Change)>,
+    fresh: &mut Joined,
     hash: Hash,
     change: &Change,
 ) -> Result<(), AllocError>
     requires { MayGrow graph.old index.old (record { hash = hash; change = change.now }) }
-    ensures fresh { OnOk result (fresh.new.items ≡ fresh.old.items ++ (hash, change.now) ∷ []) }
+    ensures fresh { OnOk result (fresh.new.entries ≡ fresh.old.entries ++ (hash, change.now) ∷ []) }
     ensures of_set { OnOk result ((C : List Member) → AreOf C graph.old index.old → AreOf (C ++ record { hash = hash; change = change.now } ∷ []) graph.new index.new) }
     ensures graph { OnErr result (graph.new ≡ graph.old) }
     ensures index { OnErr result (index.new ≡ index.old) }
-    ensures none { OnErr result (fresh.new.items ≡ fresh.old.items) }
+    ensures none { OnErr result (fresh.new.entries ≡ fresh.old.entries) }
 {
-    let twin = change.copy(alloc)?;
-    fresh.reserve(1)?;
     enter(alloc, graph, index, hash, change)?;
-    fresh.push((hash, twin))?;
+    *fresh = Joined::with(fresh, &hash, change);
     Ok(())
 }
 
 impl<'a> Growing<'a> {
     /// The set of these entries, which has this graph and this index.
-    pub fn over(
-        alloc: Global,
-        old: &'a [(Hash, Change)],
-        graph: Graph,
-        index: OpIndex,
-    ) -> Growing<'a>
+    pub fn over(old: &'a [(Hash, Change)], graph: Graph, index: OpIndex) -> Growing<'a>
         requires of_set { AreOf (members_of old.now) graph index }
         requires valid { Valid (members_of old.now) }
         ensures { result ≡ record { old = old.now; fresh = [] } }
@@ -141,7 +100,7 @@ impl<'a> Growing<'a> {
         let totals = index.totals();
         Growing {
             old,
-            fresh: Vec::new(alloc),
+            fresh: Joined::none(),
             graph,
             index,
             totals,
@@ -176,8 +135,8 @@ impl<'a> Closed for Growing<'a> {
     }
 
     fn is_same(&self, _alloc: Global, hash: &Hash, change: &Change) -> Result<bool, AllocError> {
-        let same = same_at(&self.graph, self.old, self.fresh.as_slice(), hash, change);
-        Ok(same)
+        let held = change_at(&self.graph, self.old, hash);
+        Ok(is_same(held, change))
     }
 
     fn judge(&self, alloc: Global, change: &Change) -> Result<Verdict, AllocError> {

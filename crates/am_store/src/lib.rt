@@ -3,6 +3,8 @@
 #![tactic(auto)]
 
 mod actors;
+#[cfg(test)]
+mod adopting_tests;
 mod chunk;
 mod copies;
 #[cfg(test)]
@@ -11,11 +13,13 @@ mod damage_tests;
 mod document_tests;
 mod fault;
 mod file;
+mod file_changes;
 mod growing;
 mod hashing;
 mod history;
 #[cfg(test)]
 mod history_tests;
+mod joined;
 mod laws;
 mod lists;
 #[cfg(test)]

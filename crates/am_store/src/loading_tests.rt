@@ -75,7 +75,7 @@ fn refuses(rt: &impl Abort, alloc: Global, store: &mut Store) -> Result<(), Fail
 }
 
 /// The document of the first change with this bit turned, and the checksum of that.
-fn turned(alloc: Global, place: usize) -> Result<Bytes, Fail> {
+pub(crate) fn turned(alloc: Global, place: usize) -> Result<Bytes, Fail> {
     let mut contents = Vec::new(alloc);
     for (i, byte) in next_frame(ONE)?.contents.iter().enumerate() {
         contents.push(if i == place { *byte ^ 1 } else { *byte })?;

@@ -1,5 +1,5 @@
 //! A store of changes: a closed set and the changes that wait for dependencies.
-ghost use Rattle.std.specs.Prelude.{◌≡◌, [], length, List, IfOk, OnOk, OnErr, IfErr, All, Some, find, not, true, vec_items};
+ghost use Rattle.std.specs.Prelude.{◌≡◌, ◌↔◌, [], length, List, IfOk, OnOk, OnErr, IfErr, IsTrue, All, Some, find, not, true, vec_items};
 ghost use Rattle.am_types.specs.declared.Change.{Change as AChange};
 ghost use Rattle.am_types.specs.Fine.{Fine};
 ghost use Rattle.am_types.specs.Order.{hash_cmp, Ascends};
@@ -11,8 +11,9 @@ ghost use Rattle.am_graph.specs.Graphs.{nodes, MatchFault};
 ghost use Rattle.am_change.specs.Hashes.{with_hashes};
 ghost use Rattle.am_change.specs.Judgement.{HasOwnHashes};
 ghost use Rattle.am_delivery.specs.Waiting.{members_of};
+ghost use Rattle.am_store.specs.Adopting.{IsBuilt};
 ghost use Rattle.am_store.specs.AnyOrder.{ComesInAnyOrder};
-ghost use Rattle.am_store.specs.Kept.{Kept, IsKept, counts_of, Takes, Delivered};
+ghost use Rattle.am_store.specs.Kept.{Kept, IsKept, nothing, counts_of, Takes, Delivered};
 ghost use Rattle.am_store.specs.Files.{IsFile, FirstBad};
 ghost use Rattle.am_store.specs.History.{history};
 ghost use Rattle.am_store.specs.Saved.{document, saved_all, chunk_in};
@@ -21,6 +22,7 @@ ghost use Rattle.am_store.specs.Whole.{MatchLoad};
 use crate::copies::{list_copied, map_copied};
 use crate::fault::ReadFault;
 use crate::file::changes_in;
+use crate::file_changes::{Built, FileChanges};
 use crate::growing::Growing;
 use crate::hashing::hashed;
 use crate::history::{HistoryLine, lines_with};
@@ -29,7 +31,8 @@ use crate::report::{Counts, Report};
 use crate::saving::{document_of, push_chunks};
 use am_change::chunk_of;
 use am_delivery::{
-    Pending, deliver, joins_no_more, keeps_what_came, listing_is_free, order_is_free,
+    Pending, Settled, comes_back, deliver, joins_no_more, keeps_what_came, listing_is_free,
+    order_is_free,
 };
 use am_fits::OpIndex;
 use am_graph::{ClockFault, Graph};
@@ -90,8 +93,8 @@ impl Store {
         ensures load { IfErr result (λ fault. MatchLoad fault (λ e. FirstBad only_changes bytes.now e.chunk e.fault)) }
         ensures err { OnErr result (self.new ≡ self.old) }
     {
-        let pairs = changes_in(alloc, bytes, only_changes)?;
-        let report = self.take(alloc, pairs)?;
+        let changes = changes_in(alloc, bytes, only_changes)?;
+        let report = self.take_file(alloc, changes)?;
         Ok(report)
     }
 
@@ -106,8 +109,58 @@ impl Store {
         self.take(alloc, pairs)
     }
 
-    /// Delivers changes that stand beside their own hashes. The waiting changes, graph and index grow in place; without
-    /// memory what was put in is cut off again.
+    /// Whether there are no changes.
+    fn is_empty(&self) -> bool
+        ensures { IsTrue result ↔ (self.now ≡ nothing) }
+    {
+        self.closed.is_empty() && self.waiting.is_empty()
+    }
+
+    /// Delivers the changes of a file. Where there are no others, those of one document alone are taken over.
+    fn take_file(&mut self, alloc: Global, changes: FileChanges) -> Result<Report, AllocError>
+        requires may_come { All MayCome (members_of changes) }
+        requires own_hashes { HasOwnHashes (members_of changes) }
+        ensures ok { IfOk result (λ report. Takes self.old (members_of changes) report self.new) }
+        ensures order { OnOk result (ComesInAnyOrder self.old (members_of changes) self.new) }
+        ensures err { OnErr result (self.new ≡ self.old) }
+    {
+        if !self.is_empty() {
+            return self.take(alloc, changes.into_entries());
+        }
+        let FileChanges { entries, built } = changes;
+        match built {
+            Some(built) => Ok(self.adopt(alloc, entries, built)),
+            None => self.take(alloc, entries),
+        }
+    }
+
+    /// Takes over changes that stand beside their own hashes, with what was built of them. There are no others, so nothing is
+    /// judged again, and nothing can fail.
+    fn adopt(&mut self, alloc: Global, entries: Vec<(Hash, Change)>, built: Built) -> Report
+        requires empty { self.old ≡ nothing }
+        requires built { IsBuilt (vec_items entries) built }
+        requires own_hashes { HasOwnHashes (members_of (vec_items entries)) }
+        ensures ok { Takes self.old (members_of (vec_items entries)) result self.new }
+        ensures order { ComesInAnyOrder self.old (members_of (vec_items entries)) self.new }
+    {
+        comes_back();
+        listing_is_free();
+        order_is_free();
+        valid_sets_keep_rules();
+        let report = Report {
+            added: count_of(entries.as_slice()),
+            waiting: 0,
+            rejected: List::new(alloc),
+        };
+        self.closed = entries;
+        self.pending = None;
+        self.graph = built.graph;
+        self.index = built.index;
+        report
+    }
+
+    /// Delivers changes that stand beside their own hashes. The waiting changes, graph and index grow in place, and those
+    /// that join are moved; without memory what was put in is cut off again.
     fn take(&mut self, alloc: Global, changes: Vec<(Hash, Change)>) -> Result<Report, AllocError>
         requires may_come { All MayCome (members_of (vec_items changes)) }
         requires own_hashes { HasOwnHashes (members_of (vec_items changes)) }
@@ -125,8 +178,8 @@ impl Store {
         };
         let graph = replace(&mut self.graph, Graph::new(alloc));
         let index = replace(&mut self.index, OpIndex::new(alloc));
-        let mut growing = Growing::over(alloc, self.closed.as_slice(), graph, index);
-        let Ok(rejected) = deliver(
+        let mut growing = Growing::over(self.closed.as_slice(), graph, index);
+        let Ok(settled) = deliver(
             alloc,
             &mut growing,
             &mut self.waiting,
@@ -140,17 +193,21 @@ impl Store {
         };
         let Growing {
             old: _,
-            mut fresh,
+            fresh: _,
             graph,
             index,
             totals: _,
         } = growing;
+        let Settled {
+            mut joined,
+            rejected,
+        } = settled;
         let report = Report {
-            added: count_of(fresh.as_slice()),
+            added: count_of(joined.as_slice()),
             waiting: self.waiting.len() as u64,
             rejected,
         };
-        if self.closed.append(&mut fresh).is_err() {
+        if self.closed.append(&mut joined).is_err() {
             unreachable!();
         }
         self.graph = graph;
@@ -247,7 +304,7 @@ impl Store {
         }
     }
 
-    /// The changes with these hashes and their ancestors, in the order in which they joined.
+    /// The changes with these hashes and their ancestors, in the order in which the closed set is listed.
     pub fn ancestors(&self, alloc: Global, heads: &[Hash]) -> Result<List<Change>, ClockFault>
         ensures ok { IfOk result (λ list. list ≡ changes (ancestors self.now.closed heads.now)) }
         ensures held { OnOk result (All (λ h. holds self.now.closed h ≡ true) heads.now) }

@@ -1,4 +1,4 @@
-use Rattle.std.proofs.Common.{rules, ◌≡◌, ◌∷◌, [], ◌++◌, Err, vec_items, inl, subst}
+use Rattle.std.proofs.Common.{rules, ◌≡◌, ◌∷◌, [], Err, inl, subst}
 use Rattle.am_change.specs.declared.ChangeFault.TheVariants as change_fault
 use Rattle.am_change.specs.Fronts.{IsCompressed}
 use Rattle.am_change.specs.Judgement.{Judges}
@@ -25,5 +25,4 @@ returns-clause-ok c = λ only.
     let h = c.args.hash in
     let change = c.in-Ok.change in
     let judged = c.in-Ok.ensures.judged in
-    let new : vec_items c.push.new.self ≡ vec_items c.args.pairs.now ++ (h, change) ∷ [] = search rules in
-    ((h, change) ∷ [], new, gives_change only contents h change judged.0 judged.1 (c.requires.own change judged.1) c.hash_known.ensures)
+    ((h, change) ∷ [], c.in_ok-push.ensures, gives_change only contents h change judged.0 judged.1 (c.requires.own change judged.1) c.hash_known.ensures)

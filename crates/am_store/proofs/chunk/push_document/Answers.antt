@@ -1,4 +1,4 @@
-use Rattle.std.proofs.Common.{rules, ◌≡◌, ◌++◌, Err, vec_items, inr, refl, subst}
+use Rattle.std.proofs.Common.{rules, ◌≡◌, Err, vec_items, inr, refl, subst}
 use Rattle.am_doc.specs.declared.fault.DocFault.TheVariants as doc_fault
 use Rattle.am_doc.specs.Fronts.{IsCompressed}
 use Rattle.am_doc.specs.Spelling.{Judges}
@@ -56,11 +56,10 @@ returns-clause-ok c =
     let contents = c.args.contents.now in
     let doc = c.in-Ok.doc in
     let spelled = c.in-Ok.ensures.judged in
-    let more = vec_items c.in-Ok-rebuild_hashed.more in
-    let found = c.in-Ok-rebuild_hashed.ensures.judged in
-    let new : vec_items c.append.new.self ≡ vec_items c.args.pairs.now ++ more = search rules in (
-      more,
-      new,
+    let document = c.in-Ok-rebuild_whole.document in
+    let found = c.in-Ok-rebuild_whole.ensures.judged in (
+      vec_items document.entries,
+      c.in_ok-append.ensures,
       record {
         holds = inr (record {
           kind = refl;
@@ -70,7 +69,7 @@ returns-clause-ok c =
           history = found.0.history;
           heads_are = found.1;
         });
-        own_hashes = c.in-Ok-rebuild_hashed.ensures.own_hashes;
-        may_come = c.in-Ok-rebuild_hashed.ensures.may_come;
+        own_hashes = c.in-Ok-rebuild_whole.ensures.own_hashes;
+        may_come = c.in-Ok-rebuild_whole.ensures.may_come;
       },
     )

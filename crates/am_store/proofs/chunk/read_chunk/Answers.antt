@@ -1,4 +1,4 @@
-use Rattle.std.proofs.Common.{rules, vec_items, subst, sym}
+use Rattle.std.proofs.Common.{rules, subst, sym}
 use Rattle.std.specs.Bool.{⊤}
 use Rattle.am_frame.specs.Frames.{Chunk, chunk_of}
 use Rattle.am_store.specs.Files.{IsDocumentHere}
@@ -21,7 +21,7 @@ pub returns-then-frame-eq1-clause-ok : goal.returns-then-frame-eq1-clause-ok
 returns-then-frame-eq1-clause-ok c =
     let frame = c.in-Ok.frame in
     let is = c.in-Ok.ensures.frame in
-    reads_one frame.kind 1 c.args.bytes.now frame.contents.now frame.rest.now c.if-frame-eq1.true is.1 (λ (k : Chunk). Appends (GivesPairs c.args.only_changes k) (vec_items c.args.pairs.now) (vec_items c.push_change.new.pairs)) is.0
+    reads_one frame.kind 1 c.args.bytes.now frame.contents.now frame.rest.now c.if-frame-eq1.true is.1 (λ (k : Chunk). Appends (GivesPairs c.args.only_changes k) c.args.changes.now c.push_change.new.changes) is.0
     (c.in_ok-push_change.ensures.ok c.args.only_changes)
 
 pub returns-then-only_changes-clause-bad : goal.returns-then-only_changes-clause-bad
@@ -46,5 +46,5 @@ returns-clause-ok c =
     let frame = c.in-Ok.frame in
     let is = c.in-Ok.ensures.frame in
     let zero = kind_zero frame.kind is.0.0 c.if-frame-eq1.false in
-    reads_one frame.kind 0 c.args.bytes.now frame.contents.now frame.rest.now zero is.1 (λ (k : Chunk). Appends (GivesPairs c.args.only_changes k) (vec_items c.args.pairs.now) (vec_items c.push_document.new.pairs)) is.0
-    (subst (λ only. Appends (GivesPairs only (chunk_of 0 frame.contents.now)) (vec_items c.args.pairs.now) (vec_items c.push_document.new.pairs)) (sym c.if-only_changes.false) c.in_ok-push_document.ensures.ok)
+    reads_one frame.kind 0 c.args.bytes.now frame.contents.now frame.rest.now zero is.1 (λ (k : Chunk). Appends (GivesPairs c.args.only_changes k) c.args.changes.now c.push_document.new.changes) is.0
+    (subst (λ only. Appends (GivesPairs only (chunk_of 0 frame.contents.now)) c.args.changes.now c.push_document.new.changes) (sym c.if-only_changes.false) c.in_ok-push_document.ensures.ok)

@@ -1,4 +1,4 @@
-use Rattle.std.proofs.Common.{rules, ◌+◌, vec_items, subst, sym, refl, arith}
+use Rattle.std.proofs.Common.{rules, ◌+◌, subst, sym, refl, arith}
 use Rattle.am_store.specs.Files.{FirstBad}
 use Rattle.am_store.specs.Reading.{HasRead}
 use Rattle.am_store.proofs.ReadSteps.{match_weaker, nothing_read, read_more, first_bad}
@@ -16,12 +16,12 @@ chunks-preserved c =
     let shorter = c.in-Ok.ensures.shorter in
     let few = at.invariant.few in
     record {
-      read = read_more c.args.only_changes c.args.bytes.now at.rest.now c.in-Ok.behind.now (vec_items at.pairs) (vec_items c.read_chunk.new.pairs) at.number (at.number + 1) at.invariant.read c.in-Ok.ensures.ok refl;
+      read = read_more c.args.only_changes c.args.bytes.now at.rest.now c.in-Ok.behind.now at.changes c.read_chunk.new.changes at.number (at.number + 1) at.invariant.read c.in-Ok.ensures.ok refl;
       few = omega arith;
     }
 
 pub returns-in-Err-clause-load : goal.returns-in-Err-clause-load
 returns-in-Err-clause-load c =
     match_weaker c.refused.result _ _
-    (λ e h. subst (λ k. FirstBad c.args.only_changes c.args.bytes.now k e.fault) (sym h.0) (first_bad c.args.only_changes c.args.bytes.now c.chunks.rest.now (vec_items c.chunks.pairs) c.chunks.number e.fault c.chunks.invariant.read (search rules) h.1))
+    (λ e h. subst (λ k. FirstBad c.args.only_changes c.args.bytes.now k e.fault) (sym h.0) (first_bad c.args.only_changes c.args.bytes.now c.chunks.rest.now c.chunks.changes c.chunks.number e.fault c.chunks.invariant.read (search rules) h.1))
     (c.refused.ensures c.args.only_changes c.chunks.rest.now c.in-Err.ensures.bad)

@@ -10,14 +10,14 @@ use Rattle.am_store.proofs.growing.Growing.cut.Goals as goal
 pub cut-requires : goal.cut-requires
 cut-requires c =
     let old = c.self.inside.old.now in
-    let fresh = c.self.inside.fresh.items in
+    let fresh = c.self.inside.fresh.entries in
     let are = c.self.invariant in
     subst HasDistinctSeqs (sym are.of_set.graph) (c.valid_sets_have_distinct_seqs.ensures (members_of (old ++ fresh)) are.valid)
 
 pub returns : goal.returns
 returns c =
     let old = c.self.inside.old.now in
-    let fresh = c.self.inside.fresh.items in
+    let fresh = c.self.inside.fresh.entries in
     let are = c.self.invariant in
     subst (λ (g : Grown). AreOf (members_of g.old) c.cut.new.self c.cut-2.new.self) c.self.view_is (record {
       graph = cut_graph old fresh c.self.inside.graph c.cut.new.self (length old) refl are.of_set.graph c.cut.ensures;

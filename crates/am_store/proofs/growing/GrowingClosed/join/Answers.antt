@@ -10,11 +10,11 @@ use Rattle.am_store.proofs.growing.GrowingClosed.join.Goals as goal
 pub invariant_of-self : goal.invariant_of-self
 invariant_of-self c =
     let old = c.self.inside.old.now in
-    let fresh = c.self.inside.fresh.items in
+    let fresh = c.self.inside.fresh.entries in
     let t = c.self.inside.totals in
     let are = c.self.invariant in
     let x : Hash × Change = (c.args.hash, c.args.change.now) in
-    let more = c.grow.new.fresh.items in
+    let more = c.grow.new.fresh.entries in
     let h = c.grow.new.graph in
     let iy = c.grow.new.index in
     let joins = subst (λ (g : Grown). Joins (members_of (g.old ++ g.fresh)) (member_of x)) (sym c.self.view_is) c.requires.joins in

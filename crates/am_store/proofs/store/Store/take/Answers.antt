@@ -13,7 +13,7 @@ use Rattle.am_store.specs.Grown.{Grown}
 use Rattle.am_store.specs.Kept.{Kept, IsKept, Takes}
 use Rattle.am_store.specs.declared.report.Report.{Report}
 use Rattle.am_store.proofs.AnyOrder.{in_any_order}
-use Rattle.am_store.proofs.Taking.{begins_stored, begins_tracked, tracked_after, few_joined, kept_after, of_after, takes}
+use Rattle.am_store.proofs.Taking.{same_closed, begins_stored, begins_tracked, tracked_after, few_joined, kept_after, of_after, takes}
 use Rattle.am_store.proofs.store.Store.take.Goals as goal
 
 abbrev kept_of : List (Hash × Change) → List Member → Kept
@@ -31,6 +31,14 @@ pub over-growing-requires-clause-valid : goal.over-growing-requires-clause-valid
 over-growing-requires-clause-valid c =
     let lent = c.as_slice-2.ensures.value ∙ c.reserve.ensures.items in
     subst (λ es. Valid (members_of es)) (sym lent) c.self.invariant.kept.stored.valid
+
+pub deliver-requires-clause-rest : goal.deliver-requires-clause-rest
+deliver-requires-clause-rest c =
+    let old = c.self.inside.closed.items in
+    let w = c.self.inside.waiting in
+    let lent = c.as_slice-2.ensures.value ∙ c.reserve.ensures.items in
+    let begun : ◌≡◌ {A = Grown} c.over-growing.result (record { old = old; fresh = [] }) = c.over-growing.ensures ∙ (λ i. record { old = lent i; fresh = [] }) in
+    subst (λ (g : Grown). members_of (g.old ++ g.fresh) ≡ members_of g.old) (sym begun) (same_closed old w w refl)
 
 pub deliver-requires-clause-stored : goal.deliver-requires-clause-stored
 deliver-requires-clause-stored c =
@@ -70,82 +78,76 @@ pub unreachable-requires : goal.unreachable-requires
 unreachable-requires c =
     let old = c.self.inside.closed.items in
     let w = c.self.inside.waiting in
-    let kept = c.growing.inside.old.now in
-    let fresh = c.growing.inside.fresh.items in
+    let C : List Member = members_of (c.deliver.new.closed.old ++ c.deliver.new.closed.fresh) in
+    let joined = c.in-Ok-deliver.settled.joined.items in
     let u = c.deliver.new.waiting in
     let L : List Member = members_of (vec_items c.args.changes) in
     let lent = c.as_slice-2.ensures.value ∙ c.reserve.ensures.items in
     let begun : ◌≡◌ {A = Grown} c.over-growing.result (record { old = old; fresh = [] }) = c.over-growing.ensures ∙ (λ i. record { old = lent i; fresh = [] }) in
-    let view : ◌≡◌ {A = Grown} (record { old = kept; fresh = fresh }) c.deliver.new.closed = c.growing.view_is in
-    let closed : members_of (kept ++ fresh) ≡ (deliver (members_of (old ++ [])) (waiting_of w) L).closed =
-    ap (λ (g : Grown). members_of (g.old ++ g.fresh)) view ∙ c.in-Ok-deliver.ensures.closed ∙ ap (λ (g : Grown). (deliver (members_of (g.old ++ g.fresh)) (waiting_of w) L).closed) begun in
+    let closed : C ≡ (deliver (members_of (old ++ [])) (waiting_of w) L).closed = c.in-Ok-deliver.ensures.closed ∙ ap (λ (g : Grown). (deliver (members_of (g.old ++ g.fresh)) (waiting_of w) L).closed) begun in
     let waiting = subst (λ (g : Grown). IsPermutation (deliver (members_of (g.old ++ g.fresh)) (waiting_of w) L).waiting (waiting_of u)) begun c.in-Ok-deliver.ensures.waiting in
-    let stored = subst (λ (g : Grown). AreStored (members_of (g.old ++ g.fresh)) (waiting_of u)) (sym view) c.in-Ok-deliver.ensures.stored in
-    let base = ap (λ (g : Grown). members_of g.old) view ∙ c.deliver.ensures.base ∙ ap (λ (g : Grown). members_of g.old) begun in
+    let stored = c.in-Ok-deliver.ensures.stored in
+    let more : C ≡ members_of (old ++ []) ++ members_of joined = c.in-Ok-deliver.ensures.joined ∙ ap (λ (g : Grown). members_of (g.old ++ g.fresh) ++ members_of joined) begun in
     let failed : is_ok c.append.result ≡ false = c.is_err.ensures.negation ∙ ap not c.if-is_err.true in
-    let few = few_joined old w w refl kept fresh u L closed waiting stored base c.joins_no_more.ensures in
+    let few = few_joined old w w refl C joined u L closed waiting stored more c.joins_no_more.ensures in
     let room = c.in-Ok.ensures.ok in
     let waited = c.len.ensures.len in
     let came = ap length c.as_slice.ensures.value in
     let listed = length-map (vec_items c.args.changes) member_of in
     let long = c.as_slice-3.ensures.len in
-    let joined = ap length c.as_slice-3.ensures.value in
+    let count = ap length c.as_slice-3.ensures.value in
     both_ways (is_ok c.append.result) failed (c.append.ensures.succeeds (omega arith))
 
 pub invariant_of-self-2 : goal.invariant_of-self-2
 invariant_of-self-2 c =
     let old = c.self.inside.closed.items in
     let w = c.self.inside.waiting in
-    let kept = c.growing.inside.old.now in
-    let fresh = c.growing.inside.fresh.items in
+    let C : List Member = members_of (c.deliver.new.closed.old ++ c.deliver.new.closed.fresh) in
+    let joined = c.in-Ok-deliver.settled.joined.items in
     let u = c.deliver.new.waiting in
     let L : List Member = members_of (vec_items c.args.changes) in
     let lent = c.as_slice-2.ensures.value ∙ c.reserve.ensures.items in
     let begun : ◌≡◌ {A = Grown} c.over-growing.result (record { old = old; fresh = [] }) = c.over-growing.ensures ∙ (λ i. record { old = lent i; fresh = [] }) in
-    let view : ◌≡◌ {A = Grown} (record { old = kept; fresh = fresh }) c.deliver.new.closed = c.growing.view_is in
-    let closed : members_of (kept ++ fresh) ≡ (deliver (members_of (old ++ [])) (waiting_of w) L).closed =
-    ap (λ (g : Grown). members_of (g.old ++ g.fresh)) view ∙ c.in-Ok-deliver.ensures.closed ∙ ap (λ (g : Grown). (deliver (members_of (g.old ++ g.fresh)) (waiting_of w) L).closed) begun in
+    let closed : C ≡ (deliver (members_of (old ++ [])) (waiting_of w) L).closed = c.in-Ok-deliver.ensures.closed ∙ ap (λ (g : Grown). (deliver (members_of (g.old ++ g.fresh)) (waiting_of w) L).closed) begun in
     let waiting = subst (λ (g : Grown). IsPermutation (deliver (members_of (g.old ++ g.fresh)) (waiting_of w) L).waiting (waiting_of u)) begun c.in-Ok-deliver.ensures.waiting in
-    let stored = subst (λ (g : Grown). AreStored (members_of (g.old ++ g.fresh)) (waiting_of u)) (sym view) c.in-Ok-deliver.ensures.stored in
-    let base = ap (λ (g : Grown). members_of g.old) view ∙ c.deliver.ensures.base ∙ ap (λ (g : Grown). members_of g.old) begun in
+    let stored = c.in-Ok-deliver.ensures.stored in
+    let more : C ≡ members_of (old ++ []) ++ members_of joined = c.in-Ok-deliver.ensures.joined ∙ ap (λ (g : Grown). members_of (g.old ++ g.fresh) ++ members_of joined) begun in
     let done : is_ok c.append.result ≡ true = c.is_err.ensures.negation ∙ ap not c.if-is_err.false in
-    let items : c.append.new.self.items ≡ old ++ fresh = c.append.ensures.items ∙ ap (λ b. cond b (c.reserve.new.self.items ++ fresh) c.reserve.new.self.items) done ∙ ap (λ es. es ++ fresh) c.reserve.ensures.items in
+    let items : c.append.new.self.items ≡ old ++ joined = c.append.ensures.items ∙ ap (λ b. cond b (c.reserve.new.self.items ++ joined) c.reserve.new.self.items) done ∙ ap (λ es. es ++ joined) c.reserve.ensures.items in
     record {
-      kept = subst (λ es. IsKept (kept_of es (waiting_of u))) (sym items) (kept_after old w w refl kept fresh u L closed waiting stored base c.keeps_what_came.ensures c.self.invariant.kept.own_hashes c.requires.own_hashes);
-      of_set = subst (λ es. AreOf (members_of es) c.growing.inside.graph c.growing.inside.index) (sym items) (of_after old w w refl kept fresh u L closed waiting stored base c.growing.inside.graph c.growing.inside.index c.growing.invariant.of_set);
+      kept = subst (λ es. IsKept (kept_of es (waiting_of u))) (sym items) (kept_after old w w refl C joined u L closed waiting stored more c.keeps_what_came.ensures c.self.invariant.kept.own_hashes c.requires.own_hashes);
+      of_set = subst (λ es. AreOf (members_of es) c.growing.inside.graph c.growing.inside.index) (sym items) (of_after old w w refl C joined u L closed waiting stored more c.growing.inside.graph c.growing.inside.index (subst (λ (g : Grown). AreOf (members_of (g.old ++ g.fresh)) c.growing.inside.graph c.growing.inside.index) c.growing.view_is c.growing.invariant.of_set));
       tracked = subst (λ es. IsTracked (members_of es) (waiting_of u) c.deliver.new.pending) (sym items)
-          (tracked_after old w w refl kept fresh u L closed waiting stored base c.deliver.new.pending (subst (λ (g : Grown). IsTracked (members_of (g.old ++ g.fresh)) (waiting_of u) c.deliver.new.pending) (sym view) c.in-Ok-deliver.ensures.tracked));
+          (tracked_after old w w refl C joined u L closed waiting stored more c.deliver.new.pending c.in-Ok-deliver.ensures.tracked);
     }
 
 pub returns-clause-ok : goal.returns-clause-ok
 returns-clause-ok c =
     let old = c.self.inside.closed.items in
     let w = c.self.inside.waiting in
-    let kept = c.growing.inside.old.now in
-    let fresh = c.growing.inside.fresh.items in
+    let C : List Member = members_of (c.deliver.new.closed.old ++ c.deliver.new.closed.fresh) in
+    let joined = c.in-Ok-deliver.settled.joined.items in
     let u = c.deliver.new.waiting in
     let L : List Member = members_of (vec_items c.args.changes) in
     let lent = c.as_slice-2.ensures.value ∙ c.reserve.ensures.items in
     let begun : ◌≡◌ {A = Grown} c.over-growing.result (record { old = old; fresh = [] }) = c.over-growing.ensures ∙ (λ i. record { old = lent i; fresh = [] }) in
-    let view : ◌≡◌ {A = Grown} (record { old = kept; fresh = fresh }) c.deliver.new.closed = c.growing.view_is in
-    let closed : members_of (kept ++ fresh) ≡ (deliver (members_of (old ++ [])) (waiting_of w) L).closed =
-    ap (λ (g : Grown). members_of (g.old ++ g.fresh)) view ∙ c.in-Ok-deliver.ensures.closed ∙ ap (λ (g : Grown). (deliver (members_of (g.old ++ g.fresh)) (waiting_of w) L).closed) begun in
+    let closed : C ≡ (deliver (members_of (old ++ [])) (waiting_of w) L).closed = c.in-Ok-deliver.ensures.closed ∙ ap (λ (g : Grown). (deliver (members_of (g.old ++ g.fresh)) (waiting_of w) L).closed) begun in
     let waiting = subst (λ (g : Grown). IsPermutation (deliver (members_of (g.old ++ g.fresh)) (waiting_of w) L).waiting (waiting_of u)) begun c.in-Ok-deliver.ensures.waiting in
-    let stored = subst (λ (g : Grown). AreStored (members_of (g.old ++ g.fresh)) (waiting_of u)) (sym view) c.in-Ok-deliver.ensures.stored in
-    let base = ap (λ (g : Grown). members_of g.old) view ∙ c.deliver.ensures.base ∙ ap (λ (g : Grown). members_of g.old) begun in
+    let stored = c.in-Ok-deliver.ensures.stored in
+    let more : C ≡ members_of (old ++ []) ++ members_of joined = c.in-Ok-deliver.ensures.joined ∙ ap (λ (g : Grown). members_of (g.old ++ g.fresh) ++ members_of joined) begun in
     let done : is_ok c.append.result ≡ true = c.is_err.ensures.negation ∙ ap not c.if-is_err.false in
-    let items : c.append.new.self.items ≡ old ++ fresh = c.append.ensures.items ∙ ap (λ b. cond b (c.reserve.new.self.items ++ fresh) c.reserve.new.self.items) done ∙ ap (λ es. es ++ fresh) c.reserve.ensures.items in
+    let items : c.append.new.self.items ≡ old ++ joined = c.append.ensures.items ∙ ap (λ b. cond b (c.reserve.new.self.items ++ joined) c.reserve.new.self.items) done ∙ ap (λ es. es ++ joined) c.reserve.ensures.items in
     let rejected = c.in-Ok-deliver.ensures.rejected ∙ ap (λ (g : Grown). (deliver (members_of (g.old ++ g.fresh)) (waiting_of w) L).rejected) begun in
-    let joined : c.count_of.result ≡ length fresh = c.count_of.ensures ∙ ap length c.as_slice-3.ensures.value in
+    let count : c.count_of.result ≡ length joined = c.count_of.ensures ∙ ap length c.as_slice-3.ensures.value in
     let wait = c.len-2.ensures.len ∙ sym (length-map u.entries member_of) in
-    let report : Report = record { added = c.count_of.result; waiting = c.len-2.result; rejected = c.in-Ok-deliver.rejected } in
-    let took = takes old w w refl kept fresh u L closed waiting stored base c.in-Ok-deliver.rejected c.count_of.result c.len-2.result rejected joined wait in
+    let report : Report = record { added = c.count_of.result; waiting = c.len-2.result; rejected = c.in-Ok-deliver.settled.rejected } in
+    let took = takes old w w refl C joined u L closed waiting stored more c.in-Ok-deliver.settled.rejected c.count_of.result c.len-2.result rejected count wait in
     subst (λ (o : Kept). Takes o L report (kept_of c.append.new.self.items (waiting_of u))) c.self.view_is
     (subst (λ es. Takes (kept_of old (waiting_of w)) L report (kept_of es (waiting_of u))) (sym items) took)
 
 pub returns-clause-order : goal.returns-clause-order
 returns-clause-order c =
-    let report : Report = record { added = c.count_of.result; waiting = c.len-2.result; rejected = c.in-Ok-deliver.rejected } in
+    let report : Report = record { added = c.count_of.result; waiting = c.len-2.result; rejected = c.in-Ok-deliver.settled.rejected } in
     let new = kept_of c.append.new.self.items (waiting_of c.deliver.new.waiting) in
     let kept = subst IsKept c.self.view_is c.self.invariant.kept in
     in_any_order c.listing_is_free.ensures c.args.self.now new (members_of (vec_items c.args.changes)) report kept c.requires.may_come (returns-clause-ok c) c.order_is_free.ensures

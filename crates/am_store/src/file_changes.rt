@@ -1,0 +1,113 @@
+//! The changes of a file, as far as it is read.
+ghost use Rattle.std.specs.Prelude.{◌≡◌, ◌++◌, ◌∷◌, [], OnOk, vec_items};
+ghost use Rattle.am_types.specs.ValidSets.{Valid};
+ghost use Rattle.am_fits.specs.Indexes.{AreOf};
+ghost use Rattle.am_delivery.specs.Waiting.{members_of};
+
+use am_fits::OpIndex;
+use am_graph::Graph;
+use am_rebuild::Rebuilt;
+use am_types::{Change, Hash};
+use std::alloc::{AllocError, Global};
+use std::marker::Model;
+
+/// What is built of a set of changes.
+#[derive(Drop)]
+pub struct Built {
+    pub graph: Graph,
+    pub index: OpIndex,
+}
+
+/// The changes of the chunks that were read, each behind its hash. Contracts see the changes.
+#[derive(Drop)]
+pub struct FileChanges {
+    pub(crate) entries: Vec<(Hash, Change)>,
+    /// What is built of them, while they are those of one document alone.
+    pub(crate) built: Option<Built>,
+}
+
+impl Model for FileChanges {
+    ghost use Rattle.std.specs.Prelude.{List};
+    ghost use Rattle.am_types.specs.declared.Hash.{Hash};
+    ghost use Rattle.am_types.specs.declared.Change.{Change};
+    ghost use Rattle.am_store.specs.Adopting.{AreBuilt};
+
+    ghost Value = { List (Hash × Change) };
+
+    ghost view = { λ f. f.entries.items };
+
+    ghost invariant = { λ f. AreBuilt f.entries.items f.built };
+}
+
+/// The changes of a document alone.
+fn entries_of(document: Rebuilt) -> Vec<(Hash, Change)>
+    ensures { vec_items result ≡ vec_items document.entries }
+{
+    document.entries
+}
+
+impl FileChanges {
+    /// Nothing is read yet.
+    pub fn new(alloc: Global) -> FileChanges
+        ensures { result ≡ [] }
+    {
+        FileChanges {
+            entries: Vec::new(alloc),
+            built: None,
+        }
+    }
+
+    /// One more change.
+    pub fn push(&mut self, hash: Hash, change: Change) -> Result<(), AllocError>
+        ensures { OnOk result (self.new ≡ self.old ++ (hash, change) ∷ []) }
+    {
+        self.built = None;
+        self.entries.push((hash, change))?;
+        Ok(())
+    }
+
+    /// The changes of a document, behind those that are there. Where they are the first, what was built of them is kept.
+    pub fn append(&mut self, document: Rebuilt) -> Result<(), AllocError>
+        requires of_set { AreOf (members_of (vec_items document.entries)) document.graph document.index }
+        requires valid { Valid (members_of (vec_items document.entries)) }
+        ensures { OnOk result (self.new ≡ self.old ++ vec_items document.entries) }
+    {
+        if self.entries.is_empty() {
+            self.begin(document);
+            return Ok(());
+        }
+        self.go_on(entries_of(document))
+    }
+
+    /// The changes of a document, where there are none yet.
+    fn begin(&mut self, document: Rebuilt)
+        requires none { self.old ≡ [] }
+        requires of_set { AreOf (members_of (vec_items document.entries)) document.graph document.index }
+        requires valid { Valid (members_of (vec_items document.entries)) }
+        ensures { self.new ≡ vec_items document.entries }
+    {
+        let Rebuilt {
+            entries,
+            graph,
+            index,
+        } = document;
+        self.entries = entries;
+        self.built = Some(Built { graph, index });
+    }
+
+    /// More changes, behind those that are there.
+    fn go_on(&mut self, mut more: Vec<(Hash, Change)>) -> Result<(), AllocError>
+        ensures { OnOk result (self.new ≡ self.old ++ vec_items more) }
+    {
+        self.built = None;
+        self.entries.append(&mut more)?;
+        Ok(())
+    }
+
+    /// The changes alone.
+    pub fn into_entries(self) -> Vec<(Hash, Change)>
+        ensures { vec_items result ≡ self }
+    {
+        self.entries
+    }
+}
