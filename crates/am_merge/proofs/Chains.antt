@@ -132,7 +132,7 @@ module _ (C : List Member) (v : Valid C) (o : ObjId) where
   abbrev A : List Operation
   A = operations_of C
 
-  insertion_stays : (x : Operation) → Contains (insertions A o) x → stays x ≡ true
+  pub insertion_stays : (x : Operation) → Contains (insertions A o) x → stays x ≡ true
   insertion_stays x c =
       let i = inserted A o x c in
       let fine = fine_op C (grounds_valid C v) x i.among in

@@ -38,7 +38,7 @@ use Rattle.am_merge.proofs.Within.{names, rows_part}
 use Rattle.am_merge.proofs.RowsMerged.{Extends, rows_merged}
 
 -- of one in the first list and one in the second
-pairs_across : {X : Type 0} (R : X → X → Type 0) (xs ys : List X) → AllPairs R (xs ++ ys) → (x y : X) → Contains xs x → Contains ys y → R x y
+pub pairs_across : {X : Type 0} (R : X → X → Type 0) (xs ys : List X) → AllPairs R (xs ++ ys) → (x y : X) → Contains xs x → Contains ys y → R x y
 pairs_across R [] ys all x y cx cy = absurd (omega (arith, cx.1))
 pairs_across R (z ∷ xs) ys all x y cx cy =
     elim (Contains-cons_cases z xs x cx) [

@@ -48,19 +48,19 @@ use Rattle.am_merge.proofs.PlanRows.{plan_rows}
 
 -- ---- lists
 
-Contains-flat_map : {X Y : Type 0} (f : X → List Y) (xs : List X) (x : X) (y : Y) → Contains xs x → Contains (f x) y → Contains (flat_map f xs) y
+pub Contains-flat_map : {X Y : Type 0} (f : X → List Y) (xs : List X) (x : X) (y : Y) → Contains xs x → Contains (f x) y → Contains (flat_map f xs) y
 Contains-flat_map f [] x y c d = absurd (omega (arith, c.1))
 Contains-flat_map f (z ∷ xs) x y c d = elim (Contains-cons_cases z xs x c) [
   | inl e ↦ Contains-append_left (f z) (flat_map f xs) y (subst (λ w. Contains (f w) y) (sym e) d)
   | inr t ↦ Contains-append_right (f z) (flat_map f xs) y (Contains-flat_map f xs x y t d)
 ]
 
-from_map : {X Y : Type 0} (f : X → Y) (xs : List X) (y : Y) → Contains (map f xs) y → (x : X) × Contains xs x × (f x ≡ y)
+pub from_map : {X Y : Type 0} (f : X → Y) (xs : List X) (y : Y) → Contains (map f xs) y → (x : X) × Contains xs x × (f x ≡ y)
 from_map f [] y c = absurd (omega (arith, c.1))
 from_map f (x ∷ xs) y (zero, l, e) = (x, Contains-head x xs, e)
 from_map f (x ∷ xs) y (suc k, l, e) = let r = from_map f xs y (k, omega arith, e) in (r.0, Contains-tail x xs r.0 r.1, r.2)
 
-from_flat_map : {X Y : Type 0} (f : X → List Y) (xs : List X) (y : Y) → Contains (flat_map f xs) y → (x : X) × Contains xs x × Contains (f x) y
+pub from_flat_map : {X Y : Type 0} (f : X → List Y) (xs : List X) (y : Y) → Contains (flat_map f xs) y → (x : X) × Contains xs x × Contains (f x) y
 from_flat_map f [] y c = absurd (omega (arith, c.1))
 from_flat_map f (x ∷ xs) y c = elim (Contains-append_cases (f x) (flat_map f xs) y c) [
   | inl h ↦ (x, Contains-head x xs, h)
@@ -70,7 +70,7 @@ from_flat_map f (x ∷ xs) y c = elim (Contains-append_cases (f x) (flat_map f x
 all_pairs_nil : {X : Type 0} (R : X → X → Type 0) → AllPairs R []
 all_pairs_nil R i j d p q = absurd (omega arith)
 
-all_pairs_map : {X Y : Type 0} (f : X → Y) (R : Y → Y → Type 0) (xs : List X) → AllPairs (λ x y. R (f x) (f y)) xs → AllPairs R (map f xs)
+pub all_pairs_map : {X Y : Type 0} (f : X → Y) (R : Y → Y → Type 0) (xs : List X) → AllPairs (λ x y. R (f x) (f y)) xs → AllPairs R (map f xs)
 all_pairs_map f R [] all = all_pairs_nil R
 all_pairs_map f R (x ∷ xs) all =
     AllPairs-cons R (f x) (map f xs)
@@ -105,7 +105,7 @@ module _ (es : ObjId → List OpId) where
       (λ g c. same_object_before o (Elem f) (Elem g) (subst (λ l. nat_cmp (place_in l f) (place_in l g) ≡ Less) (sym e) (All-contains (λ g. nat_cmp (place_in all f) (place_in all g) ≡ Less) fs g (All-from_recursion (λ g. nat_cmp (place_in all f) (place_in all g) ≡ Less) fs p.0) c))))
       (elements_ascend o all fs e p.1)
 
-  keys_ascend : (o : ObjId) (names : List (List ℕ)) → AllPairs (λ a b. bytes_cmp a b ≡ Less) names → InPlace (es o) (es o) → AllPairs (λ j k. IsBefore es (o, j) (o, k)) (map Name names ++ map Elem (es o))
+  pub keys_ascend : (o : ObjId) (names : List (List ℕ)) → AllPairs (λ a b. bytes_cmp a b ≡ Less) names → InPlace (es o) (es o) → AllPairs (λ j k. IsBefore es (o, j) (o, k)) (map Name names ++ map Elem (es o))
   keys_ascend o names ascend once =
       all_pairs_append (λ j k. IsBefore es (o, j) (o, k)) (map Name names) (map Elem (es o))
       (all_pairs_map Name (λ j k. IsBefore es (o, j) (o, k)) names (λ i j d p q. same_object_before o (Name (get_or names i d)) (Name (get_or names j d)) (ascend i j d p q)))
@@ -116,7 +116,7 @@ module _ (es : ObjId → List OpId) where
       subst (λ j. IsBefore es (o, j) (o, k)) a.2 (subst (λ k. IsBefore es (o, Name a.0) (o, k)) b.2 (same_object_before o (Name a.0) (Elem b.0) refl)))
 
   -- object after object
-  objects_ascend : (keys : ObjId → List Key) → ((o : ObjId) → AllPairs (λ j k. IsBefore es (o, j) (o, k)) (keys o)) → (os : List ObjId) → AllPairs (λ a b. object_cmp a b ≡ Less) os
+  pub objects_ascend : (keys : ObjId → List Key) → ((o : ObjId) → AllPairs (λ j k. IsBefore es (o, j) (o, k)) (keys o)) → (os : List ObjId) → AllPairs (λ a b. object_cmp a b ≡ Less) os
       → AllPairs (IsBefore es) (flat_map (λ o. map (λ k. (o, k)) (keys o)) os)
   objects_ascend keys within [] ascend = all_pairs_nil (IsBefore es)
   objects_ascend keys within (o ∷ os) ascend =

@@ -10,6 +10,7 @@ use Rattle.std.proofs.lemmas.Bool.{cases_Bool, both_ways}
 use Rattle.std.proofs.lemmas.Cmp.{nat_list_cmp_total, nat_list_eq_equiv, tied_itself}
 use Rattle.std.proofs.lemmas.Map.Lookups.{exact_bytes}
 use Rattle.std.proofs.lemmas.Map.Views.{tells_apart}
+use Rattle.std.proofs.lemmas.List.{map-append}
 use Rattle.std.proofs.lemmas.List.Concat.{flat_map-append}
 use Rattle.std.proofs.lemmas.List.Elements.{All-contains, All-from_recursion, Contains-append_left, Contains-append_right, Contains-append_cases}
 use Rattle.std.proofs.lemmas.List.Kept.{IsStrictlySortedBy-dedup, Contains-dedup, Contains-from_dedup}
@@ -20,6 +21,8 @@ use Rattle.am_types.specs.Members.{Member, holds}
 use Rattle.am_types.specs.Canonical.{order, canonical_cmp}
 use Rattle.am_types.specs.Documents.{index, actors, used_actors, op_actors, metas, unless_empty, table}
 use Rattle.am_types.specs.ValidSets.{Valid}
+use Rattle.am_laws.specs.Tables.{authors}
+use Rattle.am_laws.proofs.ActorLaws.{actors_are_authors}
 use Rattle.am_laws.proofs.Agreement.{held_member}
 use Rattle.am_types.proofs.Lists.{map_within}
 use Rattle.am_types.proofs.Orders.{same_bytes-true, same_hash-true, same_hash_itself}
@@ -27,7 +30,7 @@ use Rattle.am_types.proofs.Rising.{AboveNone, Rises, Rises-sorted_by, IsSorted-r
 use Rattle.am_laws.proofs.SameMembers.{NoRepeat, same_members}
 use Rattle.am_types.proofs.Sorting.{sorted_by-permutation}
 use Rattle.am_laws.proofs.ValidSetLaws.{grounds_valid}
-use Rattle.am_merge.specs.Laws.{MergesTables, RowsOfSmaller, RowsOfLarger, ChangesInOrder, HeadsOfLarger, ActorsOfLarger}
+use Rattle.am_merge.specs.Laws.{MergesTables, RowsOfSmaller, RowsOfLarger, ChangesInOrder, HeadsOfLarger, ActorsOfLarger, AuthorsOfLarger}
 use Rattle.am_merge.specs.Merge.{merge}
 use Rattle.am_merge.specs.Tables.{moved}
 use Rattle.am_merge.proofs.Lists.{map-map, same_answers}
@@ -138,6 +141,24 @@ actors_grown C E =
     ]))
     ∙ ap (dedup same_bytes) (sym (merge_is nat_list_cmp_total (used_actors C) (used_actors E) (rises_strict (used_actors C) (strict a)) (rises_strict (used_actors E) (strict b))))
 
+pub authors_grown : (C E : List Member) → Valid C → Valid (C ++ E) → used_actors (C ++ E) ≡ dedup same_bytes (sorted_by bytes_cmp (used_actors C ++ authors E))
+authors_grown C E v w =
+    let a : List (List ℕ) = authors C in
+    let b : List (List ℕ) = authors E in
+    let u : List (List ℕ) = used_actors C in
+    let same : u ≡ dedup same_bytes (sorted_by bytes_cmp a) = actors_are_authors C v in
+    actors_are_authors (C ++ E) w
+    ∙ ap (λ l. dedup same_bytes (sorted_by bytes_cmp l)) (map-append (λ (m : Member). m.change.actor) C E)
+    ∙ strict_same (dedup same_bytes (sorted_by bytes_cmp (a ++ b))) (dedup same_bytes (sorted_by bytes_cmp (u ++ b))) (strict (a ++ b)) (strict (u ++ b))
+    (λ x c. into (u ++ b) x (elim (Contains-append_cases a b x (from (a ++ b) x c)) [
+      | inl d ↦ Contains-append_left u b x (subst (λ l. Contains l x) (sym same) (into a x d))
+      | inr d ↦ Contains-append_right u b x d
+    ]))
+    (λ x c. into (a ++ b) x (elim (Contains-append_cases u b x (from (u ++ b) x c)) [
+      | inl d ↦ Contains-append_left a b x (from a x (subst (λ l. Contains l x) same d))
+      | inr d ↦ Contains-append_right a b x d
+    ]))
+
 -- ---- the laws
 
 pub rows_of_smaller : RowsOfSmaller
@@ -159,6 +180,9 @@ heads_of_larger C E v w = heads_grown C E v w
 
 pub actors_of_larger : ActorsOfLarger
 actors_of_larger = actors_grown
+
+pub authors_of_larger : AuthorsOfLarger
+authors_of_larger = authors_grown
 
 pub merges_tables : MergesTables
 unfolding table

@@ -1,27 +1,30 @@
 -- Laws over the definitions. Each is the contract of a function of the same name, which does nothing. C is a set, and
 -- C ++ E the larger one: C, and behind it the members E that are added. Each law says which of the two have to be valid.
 --     operations_of C     the operations of the members of C
-use Rattle.std.specs.Prelude.{◌≡◌, ◌≢◌, true, false, List, [], ◌∷◌, ◌++◌, map, filter, Contains}
+use Rattle.std.specs.Prelude.{ℕ, ◌+◌, ◌≤◌, length, ◌≡◌, ◌≢◌, true, false, List, [], ◌∷◌, ◌++◌, map, filter, Contains}
 use Rattle.std.specs.List.{dedup}
 use Rattle.am_types.specs.declared.OpId.{OpId}
 use Rattle.am_types.specs.declared.ObjId.{ObjId}
 use Rattle.am_types.specs.declared.Key.{Key}
 use Rattle.am_types.specs.declared.Key.TheVariants.{Head, Elem}
-use Rattle.am_types.specs.Order.{bytes_cmp}
+use Rattle.am_types.specs.Order.{bytes_cmp, sorted_by}
 use Rattle.am_types.specs.Same.{same_bytes}
-use Rattle.am_types.specs.Operations.{Operation, all_operations}
-use Rattle.am_types.specs.Members.{Member, changes, holds, heads}
+use Rattle.am_types.specs.Operations.{Operation, all_operations, ascending}
+use Rattle.am_types.specs.Members.{Member, changes, hashes, holds, heads}
 use Rattle.am_types.specs.ValidSets.{Valid, JoinInTurn}
 use Rattle.am_types.specs.Clocks.{covers}
 use Rattle.am_types.specs.Elements.{elements, insertions}
 use Rattle.am_types.specs.Rows.{rows}
 use Rattle.am_types.specs.Canonical.{depth, order}
-use Rattle.am_types.specs.Documents.{index, used_actors, table}
+use Rattle.am_types.specs.Documents.{index, metas, used_actors, table}
+use Rattle.am_laws.specs.Tables.{authors}
 use Rattle.am_merge.specs.Turns.{Old, New, children, others, pushed, grown, going, comes_first, id_of_turn}
 use Rattle.am_merge.specs.Merge.{merge, rows_within, merged}
 use Rattle.am_merge.specs.Plans.{Slot, AreSlots, plan, carried}
 use Rattle.am_merge.specs.Slots.{chain, rows_after}
+use Rattle.am_merge.specs.Walk.{beginning, walked, Walks}
 use Rattle.am_merge.specs.Tables.{moved, order_after, heads_after, table_after}
+use Rattle.am_merge.specs.ChangeRows.{turns, change_rows}
 
 abbrev pub operations_of : List Member → List Operation
 operations_of C = all_operations (changes C)
@@ -55,12 +58,23 @@ pub record ChangeOrder (C E : List Member) : Type 0 where
 abbrev pub ChangesInOrder : Type 0
 ChangesInOrder = (C E : List Member) → Valid C → Valid (C ++ E) → ChangeOrder C E
 
+-- the change rows of the larger set: in its order the rows of the added changes, and between them those of the smaller
+-- set, as they were, each dependency moved to the place that its row has now
+abbrev pub MetasOfLarger : Type 0
+MetasOfLarger = (C E : List Member) → Valid C → Valid (C ++ E)
+    → metas (order (C ++ E)) ≡ change_rows (hashes (order (C ++ E))) (turns C (order (C ++ E))) (metas (order C))
+
 -- the heads that no added member depends on, and the heads of the added members
 abbrev pub HeadsOfLarger : Type 0
 HeadsOfLarger = (C E : List Member) → Valid C → Valid (C ++ E) → heads (C ++ E) ≡ heads_after C E
 
 abbrev pub ActorsOfLarger : Type 0
 ActorsOfLarger = (C E : List Member) → used_actors (C ++ E) ≡ dedup same_bytes (merge bytes_cmp (used_actors C) (used_actors E))
+
+-- the same, of the actors of the smaller set and the authors of the added members
+abbrev pub AuthorsOfLarger : Type 0
+AuthorsOfLarger = (C E : List Member) → Valid C → Valid (C ++ E)
+    → used_actors (C ++ E) ≡ dedup same_bytes (sorted_by bytes_cmp (used_actors C ++ authors E))
 
 -- ---- lists
 
@@ -102,6 +116,16 @@ PlansRows = (C E : List Member) → Valid C → Valid (C ++ E) → (ss : List Sl
 -- the rows of the larger set, from the rows of the smaller and the added operations alone
 abbrev pub MergesRows : Type 0
 MergesRows = (C E : List Member) → Valid C → Valid (C ++ E) → rows_after (operations_of E) (rows (operations_of C)) ≡ rows (operations_of (C ++ E))
+
+-- the walk over the rows of the smaller set, and what its function gives where enough operations may come
+pub record RowsWalked (C E : List Member) : Type 0 where
+  pub walk : Walks (ascending (operations_of E)) (rows (operations_of C)) (beginning (ascending (operations_of E))) (rows (operations_of (C ++ E)))
+  pub told : (n : ℕ) → length (rows (operations_of (C ++ E))) ≤ length (rows (operations_of C)) + n
+      → carried (walked (ascending (operations_of E)) (rows (operations_of C)) n (beginning (ascending (operations_of E)))) (rows (operations_of C)) ≡ rows (operations_of (C ++ E))
+
+-- one walk over the rows of the smaller set, with a stack of new operations, gives the rows of the larger
+abbrev pub WalksRows : Type 0
+WalksRows = (C E : List Member) → Valid C → Valid (C ++ E) → RowsWalked C E
 
 -- ---- the whole table
 

@@ -3,4 +3,12 @@ pub mod Merge
 pub mod Plans
 pub mod Slots
 pub mod Tables
+pub mod Walk
+pub mod Stacks
+pub mod Spots
+pub mod Naming
+pub mod Stops
+pub mod Places
+pub mod ChangeRows
 pub mod Laws
+pub mod Grown

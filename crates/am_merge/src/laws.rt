@@ -1,5 +1,5 @@
 //! Laws over the definitions. Each function does nothing; its contract is the law.
-ghost use Rattle.am_merge.specs.Laws.{JoinedIsValid, RowsOfSmaller, RowsOfLarger, ChangesInOrder, HeadsOfLarger, ActorsOfLarger, WalksElements, ElementsWalkTree, ElementsByRows, PlansRows, MergesRows, WalkGoesOn, MergesTables};
+ghost use Rattle.am_merge.specs.Laws.{JoinedIsValid, RowsOfSmaller, RowsOfLarger, ChangesInOrder, MetasOfLarger, HeadsOfLarger, ActorsOfLarger, AuthorsOfLarger, WalksElements, ElementsWalkTree, ElementsByRows, PlansRows, MergesRows, WalkGoesOn, WalksRows, MergesTables};
 
 /// A set that joins in turn, and what joins it in turn, are valid.
 #[tactic(auto, using(crate::proofs::Joined::joined_is_valid))]
@@ -24,6 +24,13 @@ pub fn changes_in_order()
     ensures { ChangesInOrder }
 {}
 
+/// The change rows of a larger set are those of the smaller, their dependencies moved, and those of the added changes between
+/// them.
+#[tactic(auto, using(crate::proofs::ChangeRows::metas_of_larger))]
+pub fn metas_of_larger()
+    ensures { MetasOfLarger }
+{}
+
 /// The heads of a larger set are those of the smaller on which no added change depends, and those of the added changes.
 #[tactic(auto, using(crate::proofs::Tables::heads_of_larger))]
 pub fn heads_of_larger()
@@ -34,6 +41,12 @@ pub fn heads_of_larger()
 #[tactic(auto, using(crate::proofs::Tables::actors_of_larger))]
 pub fn actors_of_larger()
     ensures { ActorsOfLarger }
+{}
+
+/// The actors of a larger set are those of the smaller and the authors of the added changes, ascending, each once.
+#[tactic(auto, using(crate::proofs::Tables::authors_of_larger))]
+pub fn authors_of_larger()
+    ensures { AuthorsOfLarger }
 {}
 
 /// One walk over the elements of a list, with a stack of the new insertions, gives the elements of the larger set.
@@ -71,6 +84,11 @@ pub fn merges_rows()
 #[tactic(auto, using(crate::proofs::Goings::walk_goes_on))]
 pub fn walk_goes_on()
     ensures { WalkGoesOn }
+{}
+
+/// One walk over the rows of the smaller set, with a stack of new operations, gives the rows of the larger.
+pub fn walks_rows()
+    ensures { WalksRows }
 {}
 
 /// The table of a larger set, part by part, from the smaller set's parts and the added members.

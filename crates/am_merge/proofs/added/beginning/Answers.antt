@@ -1,0 +1,16 @@
+use Rattle.std.proofs.Common.{◌∙◌, map, reverse, ap}
+use Rattle.std.proofs.lemmas.List.{reverse-reverse}
+use Rattle.am_types.specs.Order.{sorted_by}
+use Rattle.am_places.specs.Numbered.{operation_of}
+use Rattle.am_merge.specs.Walk.{by_spot}
+use Rattle.am_merge.proofs.Steps.{map-reverse}
+use Rattle.am_merge.proofs.added.beginning.Goals as goal
+
+pub returns : goal.returns
+returns c =
+    let sorted = c.sort_spots.new.all.items in
+    ap (λ l. reverse (map operation_of l)) c.reverse.ensures.items
+    ∙ ap reverse (map-reverse operation_of sorted)
+    ∙ reverse-reverse (map operation_of sorted)
+    ∙ c.in_ok-sort_spots.ensures
+    ∙ ap (sorted_by by_spot) c.in_ok-all.ensures

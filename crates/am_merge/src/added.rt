@@ -1,0 +1,141 @@
+//! The operations of added changes, and what the walk over rows takes of them.
+ghost use Rattle.std.specs.Prelude.{◌≡◌, ◌∷◌, ◌++◌, [], All, IfOk, OnOk, filter, map, reverse};
+ghost use Rattle.am_types.specs.Order.{sorted_by};
+ghost use Rattle.am_types.specs.Operations.{operations, all_operations, ascending};
+ghost use Rattle.am_places.specs.Numbered.{operation_of, by_id};
+ghost use Rattle.am_places.specs.Sound.{HasRoom};
+ghost use Rattle.am_merge.specs.Walk.{beginning, by_spot, starts};
+ghost use Rattle.am_merge.specs.Stacks.{stacked};
+
+use crate::spot::{compare_spots, spot};
+use am_places::Numbered;
+use am_types::{Change, Key, compare_ids};
+use std::alloc::{AllocError, Global};
+use std::cmp::Ordering;
+
+// The operations of a change go up by one from its start.
+fn push_operations<'a>(all: &mut Vec<Numbered<'a>>, change: &'a Change) -> Result<(), AllocError>
+    requires room { HasRoom change.now }
+    ensures { OnOk result (map operation_of all.new.items ≡ map operation_of all.old.items ++ operations change.now) }
+{
+    let mut counter = change.start;
+    for op in change.ops.as_slice() {
+        all.push(Numbered {
+            counter,
+            actor: &change.actor,
+            op,
+        })?;
+        counter += 1;
+    }
+    Ok(())
+}
+
+// The operations of each of the changes.
+fn gather<'a>(alloc: Global, changes: &[&'a Change]) -> Result<Vec<Numbered<'a>>, AllocError>
+    requires room { All HasRoom (map (λ c. c.now) changes.now) }
+    ensures { IfOk result (λ all. map operation_of all.items ≡ all_operations (map (λ c. c.now) changes.now)) }
+{
+    let mut all = Vec::new(alloc);
+    for i in 0..changes.len() {
+        push_operations(&mut all, changes[i])?;
+    }
+    Ok(all)
+}
+
+// In ascending id.
+fn sort_operations(all: &mut Vec<Numbered<'_>>) -> Result<(), AllocError>
+    ensures { OnOk result (map operation_of all.new.items ≡ ascending (map operation_of all.old.items)) }
+{
+    all.sort_by(
+        |a: &Numbered<'_>, b: &Numbered<'_>| -> Ordering
+            ensures { result ≡ by_id a.now b.now }
+        { compare_ids(a.id(), b.id()) },
+    )?;
+    Ok(())
+}
+
+/// The operations of added changes, in ascending id.
+pub fn added_operations<'a>(
+    alloc: Global,
+    changes: &[&'a Change],
+) -> Result<Vec<Numbered<'a>>, AllocError>
+    requires room { All HasRoom (map (λ c. c.now) changes.now) }
+    ensures { IfOk result (λ all. map operation_of all.items ≡ ascending (all_operations (map (λ c. c.now) changes.now))) }
+{
+    let mut all = gather(alloc, changes)?;
+    sort_operations(&mut all)?;
+    Ok(all)
+}
+
+/// The same operations, the last one first.
+pub fn backwards<'a>(
+    alloc: Global,
+    operations: &[Numbered<'a>],
+) -> Result<Vec<Numbered<'a>>, AllocError>
+    ensures { IfOk result (λ all. map operation_of all.items ≡ reverse (map operation_of operations.now)) }
+{
+    let mut all = Vec::new(alloc);
+    for i in 0..operations.len() {
+        all.push(operations[i])?;
+    }
+    all.reverse();
+    Ok(all)
+}
+
+// It has a row, and names no element.
+fn starts(x: &Numbered<'_>) -> bool
+    ensures { result ≡ starts (operation_of x.now) }
+{
+    match &x.op.key {
+        Key::Elem(_) => false,
+        Key::Name(_) => x.op.action != 3,
+        Key::Head => x.op.action != 3,
+    }
+}
+
+// If it starts.
+fn push_start<'a>(all: &mut Vec<Numbered<'a>>, x: Numbered<'a>) -> Result<(), AllocError>
+    ensures { OnOk result (map operation_of all.new.items ≡ map operation_of all.old.items ++ filter starts (operation_of x.entry ∷ [])) }
+{
+    if starts(&x) {
+        all.push(x)?;
+        return Ok(());
+    }
+    Ok(())
+}
+
+// Those that start.
+fn starting<'a>(alloc: Global, operations: &[Numbered<'a>]) -> Result<Vec<Numbered<'a>>, AllocError>
+    ensures { IfOk result (λ all. map operation_of all.items ≡ filter starts (map operation_of operations.now)) }
+{
+    let mut all = Vec::new(alloc);
+    for i in 0..operations.len() {
+        push_start(&mut all, operations[i])?;
+    }
+    Ok(all)
+}
+
+// In the order of the walk.
+fn sort_spots(all: &mut Vec<Numbered<'_>>) -> Result<(), AllocError>
+    ensures { OnOk result (map operation_of all.new.items ≡ sorted_by by_spot (map operation_of all.old.items)) }
+{
+    all.sort_by(
+        |a: &Numbered<'_>, b: &Numbered<'_>| -> Ordering
+            ensures { result ≡ by_spot (operation_of a.now) (operation_of b.now) }
+        { compare_spots(&spot(a), &spot(b)) },
+    )?;
+    Ok(())
+}
+
+/// What waits when the walk begins.
+pub fn beginning<'a>(
+    alloc: Global,
+    operations: &[Numbered<'a>],
+) -> Result<Vec<Numbered<'a>>, AllocError>
+    ensures { IfOk result (λ all. stacked all.items ≡ beginning (map operation_of operations.now)) }
+{
+    let mut all = starting(alloc, operations)?;
+    sort_spots(&mut all)?;
+    all.reverse();
+    Ok(all)
+}

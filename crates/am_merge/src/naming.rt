@@ -1,0 +1,184 @@
+//! What added operations name, in tables that are searched by it.
+ghost use Rattle.std.specs.Prelude.{◌≡◌, ◌≤◌, ◌∷◌, ◌++◌, [], List, filter, length, map, reverse, slice_range, IfOk, OnOk};
+ghost use Rattle.std.specs.Ordering.{is_le, is_lt};
+ghost use Rattle.am_types.specs.Order.{sorted_by};
+ghost use Rattle.am_types.specs.Views.{id_of, object_of};
+ghost use Rattle.am_places.specs.Numbered.{operation_of};
+ghost use Rattle.am_merge.specs.Naming.{Named, is_named, key_cmp, named_cmp, named_key, named_of, naming_each, predecessors, reference, references};
+ghost use Rattle.am_merge.specs.Walk.{gives_value, hanging, inserts};
+
+use am_places::Numbered;
+use am_types::{IdRef, Key, ObjRef, compare_ids, compare_objects};
+use std::alloc::{AllocError, Global};
+use std::cmp::Ordering;
+
+/// An added operation beside what it names: an element of an object, or a predecessor.
+#[derive(Clone, Copy)]
+pub struct Naming<'a> {
+    pub obj: ObjRef<'a>,
+    pub id: IdRef<'a>,
+    pub operation: Numbered<'a>,
+}
+
+/// Added operations by their predecessors, and those that name elements by these.
+#[derive(Drop)]
+pub struct Tables<'a> {
+    pub named: Vec<Naming<'a>>,
+    pub hanging: Vec<Naming<'a>>,
+}
+
+// It stands beside each of its predecessors.
+fn push_predecessors<'a>(all: &mut Vec<Naming<'a>>, x: Numbered<'a>) -> Result<(), AllocError>
+    ensures { OnOk result (map named_of all.new.items ≡ map named_of all.old.items ++ naming_each (operation_of x.entry)) }
+{
+    let preds = x.op.preds.as_slice();
+    for i in 0..preds.len() {
+        all.push(Naming {
+            obj: ObjRef::Root,
+            id: preds[i].lend(),
+            operation: x,
+        })?;
+    }
+    Ok(())
+}
+
+/// The operations, beside each of their predecessors.
+pub fn predecessors<'a>(
+    alloc: Global,
+    operations: &[Numbered<'a>],
+) -> Result<Vec<Naming<'a>>, AllocError>
+    ensures { IfOk result (λ all. map named_of all.items ≡ predecessors (map operation_of operations.now)) }
+{
+    let mut all = Vec::new(alloc);
+    for i in 0..operations.len() {
+        push_predecessors(&mut all, operations[i])?;
+    }
+    Ok(all)
+}
+
+// It stands beside the element that it names, if it names one.
+fn push_reference<'a>(all: &mut Vec<Naming<'a>>, x: Numbered<'a>) -> Result<(), AllocError>
+    ensures { OnOk result (map named_of all.new.items ≡ map named_of all.old.items ++ reference (operation_of x.entry)) }
+{
+    if let Key::Elem(id) = &x.op.key {
+        all.push(Naming {
+            obj: x.op.obj.lend(),
+            id: id.lend(),
+            operation: x,
+        })?;
+    }
+    Ok(())
+}
+
+// If it is an insertion.
+fn push_insertion<'a>(all: &mut Vec<Naming<'a>>, x: Numbered<'a>) -> Result<(), AllocError>
+    ensures { OnOk result (map named_of all.new.items ≡ map named_of all.old.items ++ references (filter inserts (operation_of x.entry ∷ []))) }
+{
+    if x.op.insert {
+        return push_reference(all, x);
+    }
+    Ok(())
+}
+
+// If it has a row and is no insertion.
+fn push_value<'a>(all: &mut Vec<Naming<'a>>, x: Numbered<'a>) -> Result<(), AllocError>
+    ensures { OnOk result (map named_of all.new.items ≡ map named_of all.old.items ++ references (filter gives_value (operation_of x.entry ∷ []))) }
+{
+    if x.op.insert {
+        return Ok(());
+    }
+    if x.op.action == 3 {
+        return Ok(());
+    }
+    push_reference(all, x)
+}
+
+// The insertions among the operations.
+fn push_insertions<'a>(
+    all: &mut Vec<Naming<'a>>,
+    operations: &[Numbered<'a>],
+) -> Result<(), AllocError>
+    ensures { OnOk result (map named_of all.new.items ≡ map named_of all.old.items ++ references (filter inserts (map operation_of operations.now))) }
+{
+    for i in 0..operations.len() {
+        push_insertion(all, operations[i])?;
+    }
+    Ok(())
+}
+
+// Those that have a row and are no insertions.
+fn push_values<'a>(all: &mut Vec<Naming<'a>>, operations: &[Numbered<'a>]) -> Result<(), AllocError>
+    ensures { OnOk result (map named_of all.new.items ≡ map named_of all.old.items ++ references (filter gives_value (map operation_of operations.now))) }
+{
+    for i in 0..operations.len() {
+        push_value(all, operations[i])?;
+    }
+    Ok(())
+}
+
+/// The operations that name elements, in the order in which they are put on the stack; they are given in both directions.
+pub fn references<'a>(
+    alloc: Global,
+    operations: &[Numbered<'a>],
+    backwards: &[Numbered<'a>],
+) -> Result<Vec<Naming<'a>>, AllocError>
+    requires { map operation_of backwards.now ≡ reverse (map operation_of operations.now) }
+    ensures { IfOk result (λ all. map named_of all.items ≡ references (hanging (map operation_of operations.now))) }
+{
+    let mut all = Vec::new(alloc);
+    push_insertions(&mut all, operations)?;
+    push_values(&mut all, backwards)?;
+    Ok(all)
+}
+
+// By object, then by the id that is named.
+fn compare_named(n: &Naming<'_>, obj: ObjRef<'_>, id: IdRef<'_>) -> Ordering
+    ensures { result ≡ key_cmp (named_key (named_of n.now)) (object_of obj.entry, id_of id.entry) }
+{
+    compare_objects(n.obj, obj).then(compare_ids(n.id, id))
+}
+
+/// Sorts a table by what is named. What names the same stays in order.
+pub fn sort_namings(all: &mut Vec<Naming<'_>>) -> Result<(), AllocError>
+    ensures { OnOk result (map named_of all.new.items ≡ sorted_by named_cmp (map named_of all.old.items)) }
+{
+    all.sort_by(
+        |a: &Naming<'_>, b: &Naming<'_>| -> Ordering
+            ensures { result ≡ named_cmp (named_of a.now) (named_of b.now) }
+        { compare_named(a, b.obj, b.id) },
+    )?;
+    Ok(())
+}
+
+// What names a lesser id, or an object before this one.
+fn names_less(n: &Naming<'_>, obj: ObjRef<'_>, id: IdRef<'_>) -> bool
+    ensures { result ≡ is_lt (key_cmp (named_key (named_of n.now)) (object_of obj.entry, id_of id.entry)) }
+{
+    compare_named(n, obj, id).is_lt()
+}
+
+// What names this id, or what is before it.
+fn names_up_to(n: &Naming<'_>, obj: ObjRef<'_>, id: IdRef<'_>) -> bool
+    ensures { result ≡ is_le (key_cmp (named_key (named_of n.now)) (object_of obj.entry, id_of id.entry)) }
+{
+    compare_named(n, obj, id).is_le()
+}
+
+/// From where to where a sorted table names this id in this object.
+pub fn range_of(table: &[Naming<'_>], obj: ObjRef<'_>, id: IdRef<'_>) -> (usize, usize)
+    ensures order { result.0 ≤ result.1 }
+    ensures bound { result.1 ≤ length table.now }
+    ensures named { (xs : List Named) → map named_of table.now ≡ sorted_by named_cmp xs → map named_of (slice_range table.now result.0 result.1) ≡ filter (is_named (object_of obj.entry) (id_of id.entry)) xs }
+{
+    let first = table.partition_point(|n| names_less(n, obj, id));
+    let last = table.partition_point(|n| names_up_to(n, obj, id));
+    (first, last.max(first))
+}
+
+/// What a sorted table has of those that name this id in this object.
+pub fn named_in<'t, 'a>(table: &'t [Naming<'a>], obj: ObjRef<'_>, id: IdRef<'_>) -> &'t [Naming<'a>]
+    ensures { (xs : List Named) → map named_of table.now ≡ sorted_by named_cmp xs → map named_of result.now ≡ filter (is_named (object_of obj.entry) (id_of id.entry)) xs }
+{
+    let range = range_of(table, obj, id);
+    &table[range.0..range.1]
+}
