@@ -1,9 +1,9 @@
 //! Documents taken over by an empty store, beside a store to which their changes are delivered. All are those of the
 //! reference encoder.
-use crate::loading_tests::turned;
+use crate::loading_tests::{fault_of, turned};
 use crate::saving_tests::{BESIDE, BOTH, DELETED, DELETION, ONE};
-use crate::tests::{FIRST, OTHER, SECOND};
-use crate::{Counts, Store};
+use crate::tests::{FIRST, FIRST_HASH, OTHER, SECOND};
+use crate::{Counts, LoadFault, Store};
 use std::alloc::Global;
 use std::process::Abort;
 use std::test::Fail;
@@ -56,6 +56,16 @@ fn taken_over(
         other.read_file(alloc, *chunk, true)?;
     }
     are_alike(rt, alloc, store, other)
+}
+
+// A delivery lists the ready change of least hash first, which is that of BESIDE; what is taken over stands as in the
+// document.
+#[test]
+fn what_is_taken_over_stands_as_in_the_document(rt: HostRuntime) -> Result<(), Fail> {
+    let mut store = Store::new(rt.alloc())?;
+    store.read_file(rt.alloc(), BOTH, false)?;
+    assert!(rt; store.graph().place(&FIRST_HASH) == Some(0));
+    Ok(())
 }
 
 /// Both are told the same of what comes later, and hold the same afterwards.
@@ -114,7 +124,10 @@ fn other_heads_leave_an_empty_store(rt: HostRuntime) -> Result<(), Fail> {
 
 fn stays_empty(rt: &impl Abort, alloc: Global, store: &mut Store) -> Result<(), Fail> {
     let document = turned(alloc, 2)?;
-    assert!(rt; store.read_file(alloc, document.as_slice(), false).is_err());
+    assert_eq!(rt;
+        fault_of(alloc, store, document.as_slice(), false),
+        Some(LoadFault::HeadsMismatch(FIRST_HASH))
+    );
     assert_eq!(rt; store.counts(), NO_CHANGES);
     assert_eq!(rt; store.read_file(alloc, ONE, false)?.added, 1);
     Ok(())

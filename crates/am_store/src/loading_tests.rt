@@ -83,7 +83,7 @@ pub(crate) fn turned(alloc: Global, place: usize) -> Result<Bytes, Fail> {
     Ok(framed(alloc, 0, contents.as_slice())?)
 }
 
-fn fault_of(
+pub(crate) fn fault_of(
     alloc: Global,
     store: &mut Store,
     file: &[u8],
