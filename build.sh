@@ -3,56 +3,118 @@
 set -u
 cd "$(dirname -- "$0")" || exit 1
 program=crates/am_cli/out/am_cli
-log=crates/am_cli/out/build.log
+out=$(pwd)/crates/am_cli/out
+log=$out/build.log
+work=$out/build
 say() { printf 'amstore: %s\n' "$*" >&2; }
 
-for needed in rt make; do
-  if ! command -v "$needed" >/dev/null; then
-    say "the program isn't built, and $needed isn't on the path (rt is the command of the Rattle toolchain)"
-    exit 1
-  fi
-done
-
-# A check of a crate takes up to about 5 GB with two processes, so memory may allow fewer side by side than there are
-# processors. Most crates stand on one another, so that few can be proved at once: each gets a second process.
-jobs=$(nproc 2>/dev/null || echo 1)
-room=$(awk '/^MemAvailable/ { print int($2 / 5000000) }' /proc/meminfo 2>/dev/null)
-[ "${room:-$jobs}" -ge "$jobs" ] || jobs=$room
-[ "$jobs" -ge 1 ] || jobs=1
-each=2
-[ "$jobs" -ge 2 ] || each=1
-
-# One rule a crate: it comes once those that it stands on are proved.
-rules() {
-  awk -F: -v each="$each" '
-    /^[a-z]/ { names = names " " $1; below[$1] = $2 }
-    END {
-      print "all:" names
-      for (name in below) {
-        line = name ":"
-        of = split(below[name], needs, " ")
-        for (i = 1; i <= of; i++) if (needs[i] in below) line = line " " needs[i]
-        printf "%s\n\t@cd crates/%s && mkdir -p out && rt check --jobs %s >out/check.log 2>&1 && echo %s\n", line, name, each, name
-      }
-    }' crates.txt
-}
-
-mkdir -p "${log%/*}" || exit 1
-of=$(grep -c '^[a-z]' crates.txt)
-say "the program isn't built yet. Its $of crates are proved first, up to $jobs at a time. That takes long, and once (README.md, \"Set up\")"
-began=$(date +%s)
-spent() { echo $((($(date +%s) - began) / 60)); }
-(
-  rules | make -s -j "$jobs" -f - all 2>&1
-  echo "ended $?"
-) | tee "$log" | while read -r name more; do
-  [ -z "$more" ] || continue
-  at=$((${at:-0} + 1))
-  say "$name is done, $at of $of, after $(spent) minutes"
-done
-if ! grep -qx 'ended 0' "$log" || ! (cd crates/am_cli && rt run -- run </dev/null) >>"$log" 2>&1 || [ ! -x "$program" ]; then
-  tail -n 20 "$log" >&2
-  say "the program couldn't be built. What rt said is in $(pwd)/$log, and of each crate in its out/check.log"
+if ! command -v rt >/dev/null; then
+  say "the program isn't built, and rt isn't on the path (it is the command of the Rattle toolchain)"
   exit 1
 fi
-say "built, after $(spent) minutes"
+
+# A check of a crate takes up to about 5 GB, so memory may allow fewer side by side than there are processors.
+processors=$(nproc 2>/dev/null || echo 1)
+room=$(awk '/^MemAvailable/ { print int($2 / 5000000) }' /proc/meminfo 2>/dev/null)
+at_once=$processors
+[ "${room:-$at_once}" -ge "$at_once" ] || at_once=$room
+[ "$at_once" -ge 1 ] || at_once=1
+
+# While rt works on a crate, no other rt may work on one that it stands on. So each crate is proved in a copy of the
+# sources. rt shares what it proved among copies by a folder beside its kit; where it can't, there is no copy.
+kit=$(rt doc) && kept=$(dirname -- "$(dirname -- "$kit")")/rattle-kept
+mkdir -p "$kept" 2>/dev/null && [ -w "$kept" ] || at_once=1
+
+# What rt kept of each crate goes to the clone's own folder, so that after a pull it proves only what changed.
+keep_work() {
+  for name in $(ls "$work/copies" 2>/dev/null); do
+    kept=$work/copies/$name/crates/$name/out/incremental
+    [ ! -d "$kept" ] || [ -d "crates/$name/out/incremental" ] || mv "$kept" "crates/$name/out/" 2>/dev/null
+  done
+  rm -rf "$work"
+}
+rm -rf "$work"
+mkdir -p "$work/copies" "$work/at-work" "$work/done" "$work/failed" || exit 1
+: >"$log"
+trap keep_work EXIT
+# (a shell's jobs don't see an interrupt)
+trap 'trap "" TERM; kill 0; wait; exit 1' INT HUP TERM
+
+# Of each crate a line: how nice it is to others, its name, and those that it stands on; first those with the longest
+# chains of others above them, which are the least nice.
+awk -F: '
+  /^[a-z]/ { below[$1] = $2 }
+  END {
+    do {
+      more = 0
+      for (name in below) {
+        of = split(below[name], needs, " ")
+        for (i = 1; i <= of; i++)
+          if (needs[i] in below && above[needs[i]] < above[name] + 1) { above[needs[i]] = above[name] + 1; more = 1 }
+      }
+    } while (more)
+    for (name in above) if (above[name] > most) most = above[name]
+    for (long = most; long >= 0; long--) for (name in below) if (above[name] + 0 == long) {
+      line = (most - long) " " name
+      of = split(below[name], needs, " ")
+      for (i = 1; i <= of; i++) if (needs[i] in below) line = line " " needs[i]
+      print line
+    }
+  }' crates.txt >"$work/plan"
+
+count() { ls "$work/$1" | wc -l; }
+
+# Proves a crate: alone with all processors, else with those that are left, two at least.
+prove() {
+  here=.
+  if [ "$at_once" -gt 1 ]; then
+    here=$work/copies/$1
+    # (.git marks the top of a repository, where rt looks for crates.txt)
+    mkdir -p "$here/.git" && cp crates.txt HANDLES "$here" || return 1
+    for crate in crates/*; do
+      mkdir -p "$here/$crate" || return 1
+      for part in src specs proofs; do
+        [ ! -d "$crate/$part" ] || cp -R "$crate/$part" "$here/$crate" || return 1
+      done
+    done
+  fi
+  jobs=$((processors + 1 - $(count at-work)))
+  [ "$jobs" -ge 2 ] || jobs=2
+  [ "$jobs" -le "$processors" ] || jobs=$processors
+  verb=lib
+  [ ! -f "crates/$1/src/main.rt" ] || verb=check
+  (cd "$here/crates/$1" && nice -n "$2" rt "$verb" --jobs "$jobs") >"crates/$1/out/check.log" 2>&1
+}
+
+of=$(grep -c . "$work/plan")
+say "the program isn't built yet. Its $of crates are proved first, up to $at_once at a time. That takes long, and once (README.md, \"Set up\")"
+began=$(date +%s)
+spent() { echo $((($(date +%s) - began) / 60)); }
+while [ "$(count done)" -lt "$of" ] && [ "$(count failed)" -eq 0 ]; do
+  while read -r nice name needs; do
+    [ "$(count at-work)" -lt "$at_once" ] || break
+    [ ! -e "$work/at-work/$name" ] && [ ! -e "$work/done/$name" ] || continue
+    for need in $needs; do
+      [ -e "$work/done/$need" ] || continue 2
+    done
+    : >"$work/at-work/$name"
+    mkdir -p "crates/$name/out"
+    (
+      end=failed
+      if prove "$name" "$nice"; then end=done; fi
+      mv "$work/at-work/$name" "$work/$end/$name"
+      [ "$end" = failed ] || say "$name is done, $(count done) of $of, after $(spent) minutes"
+    ) </dev/null >>"$log" &
+  done <"$work/plan"
+  sleep 1
+done
+if [ "$(count failed)" -eq 0 ] && (cd crates/am_cli && rt run -- run </dev/null) >>"$log" 2>&1 && [ -x "$program" ]; then
+  say "built, after $(spent) minutes"
+  exit 0
+fi
+for name in $(ls "$work/failed"); do
+  tail -n 20 "crates/$name/out/check.log" >&2
+done
+wait
+say "the program couldn't be built. What rt said is in $log, and of each crate in its out/check.log"
+exit 1
