@@ -8,11 +8,10 @@ use Rattle.am_types.specs.declared.Op.{Op}
 use Rattle.am_types.specs.Fine.{IsId, IsKey, FineOp, pred_count}
 use Rattle.am_delta.specs.Deltas.{AreMiddling}
 use Rattle.am_values.specs.Columns.{AllGood}
-use Rattle.am_fields.specs.Held.{FieldsFit, IdsFit}
+use Rattle.am_fields.specs.Held.{IdsFit}
 use Rattle.am_fields.specs.Layout.{key_counter, id_counter, flat}
 use Rattle.am_fields.proofs.CanonicalLaws as fields
 use Rattle.am_fields.proofs.Lists.{all-append}
-use Rattle.am_opcols.specs.Writing.{op_lists}
 use Rattle.am_opcols.proofs.WriteLaws.{pred_count-cons}
 
 keys_fine : (ops : List Op) → All FineOp ops → AllByRecursion IsKey (map (λ o. o.key) ops)
@@ -37,16 +36,6 @@ values_good (o ∷ ops) all = ((All-head FineOp o ops all).value, values_good op
 pub length-preds : (ops : List Op) → length (flat (map (λ o. o.preds) ops)) ≡ pred_count ops
 length-preds [] = refl
 length-preds (o ∷ ops) = length-append o.preds (flat (map (λ o. o.preds) ops)) ∙ ap (λ n. length o.preds + n) (length-preds ops) ∙ sym (pred_count-cons o ops)
-
-pub fields_fit : (ops : List Op) → All FineOp ops → length ops ≤ 2 ^ 22 → FieldsFit (op_lists ops)
-fields_fit ops all few = record {
-  keys = keys_middling ops all;
-  values = values_good ops all;
-  few_keys = omega (arith, length-map ops (λ o. o.key));
-  few_inserts = omega (arith, length-map ops (λ o. o.insert));
-  few_values = omega (arith, length-map ops (λ o. o.value));
-  few_expands = omega (arith, length-map ops (λ o. o.expand));
-}
 
 pub preds_fit : (ops : List Op) → All FineOp ops → pred_count ops ≤ 2 ^ 22 → IdsFit (flat (map (λ o. o.preds) ops))
 preds_fit ops all few = record { counters = preds_middling ops all; few = omega (arith, length-preds ops) }

@@ -1,6 +1,7 @@
 pub mod OpLaws
 pub mod OneReading
 pub mod WriteLaws
+pub mod CountingLaws
 pub mod OtherLaws
 pub mod CanonicalLaws
 pub mod Named

@@ -1,7 +1,7 @@
 pub mod Columns
 pub mod Rows
 pub mod Others
-pub mod Lent
+pub mod Counting
 pub mod Writing
 pub mod Chains
 pub mod EachColumn

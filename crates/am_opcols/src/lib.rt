@@ -3,6 +3,9 @@
 #![tactic(auto)]
 
 mod canonical;
+mod cells;
+mod columns;
+mod counting;
 mod cursor;
 mod each_column;
 mod fault;
@@ -13,7 +16,6 @@ mod others;
 #[cfg(test)]
 mod tests;
 mod write;
-mod writer;
 
 pub use am_fields::IdCursor as PredCursor;
 pub use canonical::are_canonical;

@@ -5,10 +5,13 @@ ghost use Rattle.am_colmeta.specs.Metadata.{metadata, listing, body, not_empty};
 ghost use Rattle.am_fields.specs.Columns.{spellings};
 ghost use Rattle.am_opcols.specs.Columns.{op_columns};
 ghost use Rattle.am_opcols.specs.Others.{others};
-ghost use Rattle.am_opcols.specs.Writing.{Wrote, written_columns};
+ghost use Rattle.am_opcols.specs.Writing.{written_columns};
 
+use crate::cells::{Action, KeyPlace, Metadata, ObjectCounter, ObjectPlace, PredCount};
+use crate::columns::{
+    expands_in, inserts_in, key_counters_in, key_names_in, marks_in, numbers_in, preds_in, raw_in,
+};
 use crate::others::others_of;
-use crate::writer::OpWriter;
 use am_fields::columns_of;
 use am_types::{ActorId, Bytes, List, Op, Twin};
 use std::alloc::{AllocError, Global};
@@ -24,69 +27,57 @@ pub struct OpsText {
     pub body: Bytes,
 }
 
-// Writes the operations one after another.
-fn written(alloc: Global, actors: &[ActorId], ops: &[Op]) -> Result<OpWriter, AllocError>
-    requires fine { All FineOp ops.now }
-    requires few { length ops.now ≤ 2 ^ 22 }
-    requires few_preds { pred_count ops.now ≤ 2 ^ 22 }
-    ensures { IfOk result (Wrote actors.now ops.now) }
-{
-    let mut writer = OpWriter::new(alloc);
-    for i in 0..ops.len() {
-        writer.push(actors, ops, i)?;
-    }
-    Ok(writer)
-}
-
-// The columns of the operations that were written, one after another.
+// The columns of the operations, one after another.
 fn columns_in(
     alloc: Global,
-    writer: OpWriter,
     actors: &[ActorId],
     ops: &[Op],
 ) -> Result<Vec<(u64, Bytes)>, AllocError>
-    requires written { Wrote actors.now ops.now writer }
     requires fine { All FineOp ops.now }
     requires few { length ops.now ≤ 2 ^ 22 }
     requires few_preds { pred_count ops.now ≤ 2 ^ 22 }
     ensures { IfOk result (λ columns. columns.items ≡ spellings actors.now (op_columns ops.now)) }
 {
-    let fields = writer.fields.finish()?;
-    let lengths = writer.lengths.finish()?;
-    let (places, counters) = writer.preds.finish()?;
-    let mut columns = Vec::new(alloc);
-    columns.push((1, fields.object_actor))?;
-    columns.push((2, fields.object_counter))?;
-    columns.push((17, fields.key_actor))?;
-    columns.push((19, fields.key_counter))?;
-    columns.push((21, fields.key_name))?;
-    columns.push((52, fields.insert))?;
-    columns.push((66, fields.action))?;
-    columns.push((86, fields.numbers))?;
-    columns.push((87, fields.raw))?;
+    let object_actor = numbers_in::<ObjectPlace>(alloc, actors, ops)?;
+    let object_counter = numbers_in::<ObjectCounter>(alloc, actors, ops)?;
+    let key_actor = numbers_in::<KeyPlace>(alloc, actors, ops)?;
+    let key_counter = key_counters_in(alloc, ops)?;
+    let key_name = key_names_in(alloc, ops)?;
+    let insert = inserts_in(alloc, ops)?;
+    let action = numbers_in::<Action>(alloc, actors, ops)?;
+    let numbers = numbers_in::<Metadata>(alloc, actors, ops)?;
+    let raw = raw_in(alloc, ops)?;
+    let lengths = numbers_in::<PredCount>(alloc, actors, ops)?;
+    let (places, counters) = preds_in(alloc, actors, ops)?;
+    let expand = expands_in(alloc, ops)?;
+    let mark = marks_in(alloc, ops)?;
+    let mut columns = Vec::with_capacity(alloc, 14)?;
+    columns.push((1, object_actor))?;
+    columns.push((2, object_counter))?;
+    columns.push((17, key_actor))?;
+    columns.push((19, key_counter))?;
+    columns.push((21, key_name))?;
+    columns.push((52, insert))?;
+    columns.push((66, action))?;
+    columns.push((86, numbers))?;
+    columns.push((87, raw))?;
     columns.push((112, lengths))?;
     columns.push((113, places))?;
     columns.push((115, counters))?;
-    columns.push((148, fields.expand))?;
-    columns.push((165, fields.mark))?;
+    columns.push((148, expand))?;
+    columns.push((165, mark))?;
     Ok(columns)
 }
 
-// The metadata and the body of the operations that were written.
-fn finished(
-    alloc: Global,
-    writer: OpWriter,
-    actors: &[ActorId],
-    ops: &[Op],
-) -> Result<(Bytes, Bytes), AllocError>
-    requires written { Wrote actors.now ops.now writer }
+// The metadata and the body of the operations.
+fn text_of(alloc: Global, actors: &[ActorId], ops: &[Op]) -> Result<(Bytes, Bytes), AllocError>
     requires fine { All FineOp ops.now }
     requires few { length ops.now ≤ 2 ^ 22 }
     requires few_preds { pred_count ops.now ≤ 2 ^ 22 }
     ensures metadata { IfOk result (λ text. text.0 ≡ metadata (listing (not_empty (spellings actors.now (op_columns ops.now))))) }
     ensures body { IfOk result (λ text. text.1 ≡ body (not_empty (spellings actors.now (op_columns ops.now)))) }
 {
-    let columns = columns_in(alloc, writer, actors, ops)?;
+    let columns = columns_in(alloc, actors, ops)?;
     columns_of(alloc, &columns)
 }
 
@@ -102,8 +93,7 @@ pub fn write_ops(alloc: Global, ops: &[Op], author: &ActorId) -> Result<OpsText,
     let mut actors = others_of(alloc, ops, author)?;
     let first = author.copy(alloc)?;
     actors.insert(0, first)?;
-    let writer = written(alloc, &actors, ops)?;
-    let (metadata, body) = finished(alloc, writer, &actors, ops)?;
+    let (metadata, body) = text_of(alloc, &actors, ops)?;
     let _author = actors.remove(0);
     Ok(OpsText {
         others: List::from(actors),

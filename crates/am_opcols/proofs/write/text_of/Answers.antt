@@ -2,7 +2,7 @@ use Rattle.std.proofs.Common.{◌≡◌, ℕ, List, sym, ap, ◌∙◌, subst}
 use Rattle.std.specs.Prelude.{IfOk}
 use Rattle.am_colmeta.specs.Metadata.{metadata, listing, body, not_empty, Ascend}
 use Rattle.am_opcols.proofs.WrittenOps.{ascending}
-use Rattle.am_opcols.proofs.write.finished.Goals as goal
+use Rattle.am_opcols.proofs.write.text_of.Goals as goal
 
 pub columns_of-requires : goal.columns_of-requires
 columns_of-requires c =

@@ -1,0 +1,9 @@
+use Rattle.std.proofs.Common.{◌≤◌, None, map, take}
+use Rattle.am_opcols.specs.Counting.{Counts}
+use Rattle.am_opcols.proofs.columns.marks_in.Given as goal
+
+abbrev pub invariant-loop-op : goal.invariant-loop-op
+invariant-loop-op l = record {
+  few : l.nulls ≤ l.op-index;
+  counts : Counts (map (λ o. o.mark) (take l.op-index l.ops)) l.writer None l.nulls;
+}
