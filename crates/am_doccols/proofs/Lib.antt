@@ -6,6 +6,7 @@ pub mod RowsWritten
 pub mod RowsTaken
 pub mod MetasWritten
 pub mod MetasTaken
+pub mod Skipped
 pub mod Spelling
 pub mod TakingTested
 pub mod RowsSpelled

@@ -10,7 +10,7 @@ use Rattle.am_types.specs.Values.{Good}
 use Rattle.am_colmeta.specs.Metadata.{body, not_empty, column_at}
 use Rattle.am_colmeta.proofs.Judging.{found_without_empty}
 use Rattle.am_colmeta.proofs.Entries.{body-not_empty}
-use Rattle.am_values.specs.Columns.{metadata, AllGood}
+use Rattle.am_values.specs.Columns.{metadata}
 use Rattle.am_fields.specs.Actors.{IsListed}
 use Rattle.am_fields.specs.Extras.{extra_value, IsExtra, IsShortExtra}
 use Rattle.am_fields.specs.Limits.{IsShortActor, IsBelow, IsTime}

@@ -15,7 +15,7 @@ use Rattle.am_types.specs.Values.{Good}
 use Rattle.am_colmeta.specs.Metadata.{body, not_empty, column_at}
 use Rattle.am_colmeta.proofs.Judging.{found_without_empty}
 use Rattle.am_colmeta.proofs.Entries.{body-not_empty}
-use Rattle.am_values.specs.Columns.{metadata, AllGood}
+use Rattle.am_values.specs.Columns.{metadata}
 use Rattle.am_fields.specs.Actors.{IfListed}
 use Rattle.am_fields.specs.Limits.{IsWithin, IsObjectWithin, IsKeyWithin}
 use Rattle.am_fields.specs.Columns.{SpellsNumbers, SpellsDeltas, SpellsTexts, SpellsFlags, SpellsActors, SpellsCounts, SpellsColumns, spellings}

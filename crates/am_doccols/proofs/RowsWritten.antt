@@ -10,9 +10,6 @@ use Rattle.std.proofs.lemmas.List.Elements.{All-from_recursion}
 use Rattle.am_types.specs.declared.IdRef.{IdRef}
 use Rattle.am_types.specs.declared.OpId.{OpId}
 use Rattle.am_types.specs.Fine.{IsId}
-use Rattle.am_types.specs.declared.ObjId.{ObjId}
-use Rattle.am_types.specs.declared.Key.{Key}
-use Rattle.am_types.specs.declared.RawValue.{RawValue}
 use Rattle.am_types.specs.declared.Row.{Row}
 use Rattle.am_types.specs.Views.{id_of}
 use Rattle.am_fields.specs.Columns.{place_of, spellings}

@@ -1,12 +1,12 @@
 -- What holds of each row holds of its fields, and of the cells of each column.
-use Rattle.std.proofs.Common.{◌≡◌, ℕ, ◌≤◌, ◌<◌, ◌^◌, List, [], ◌∷◌, length, map, Option, Some, None, arith, true}
-use Rattle.std.specs.Prelude.{IfSome, ◌==◌, if◌then◌else◌, false, Bool}
+use Rattle.std.proofs.Common.{ℕ, ◌≤◌, ◌<◌, ◌^◌, List, [], ◌∷◌, length, map, Option, Some, None, arith, true}
+use Rattle.std.specs.Prelude.{IfSome, ◌==◌, if◌then◌else◌, false}
 use Rattle.std.specs.List.{AllByRecursion}
 use Rattle.std.proofs.lemmas.List.{length-append, length-map}
 use Rattle.am_types.specs.declared.OpId.{OpId}
 use Rattle.am_types.specs.Fine.{IsId}
 use Rattle.am_colmeta.specs.Metadata.{body, column_at}
-use Rattle.am_fields.specs.Actors.{IsListed, IfListed}
+use Rattle.am_fields.specs.Actors.{IfListed}
 use Rattle.am_fields.specs.Columns.{SpellsCounts, numbers_bytes}
 use Rattle.am_fields.specs.Layout.{flat, id_actor}
 use Rattle.am_fields.specs.Limits.{IsWithin}

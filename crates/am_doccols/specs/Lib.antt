@@ -7,3 +7,4 @@ pub mod Back
 pub mod Writing
 pub mod Front
 pub mod MetaWriting
+pub mod Skipping

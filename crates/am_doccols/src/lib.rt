@@ -11,11 +11,13 @@ mod meta_columns;
 mod meta_finished;
 mod meta_writer;
 mod metas;
+mod passing;
 mod row;
 mod row_writer;
 mod rows;
 #[cfg(test)]
 mod tests;
+mod unnamed;
 
 pub use am_fields::{IdCursor as SuccCursor, IndexCursor};
 pub use fault::BadRows;

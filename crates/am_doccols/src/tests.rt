@@ -83,6 +83,16 @@ fn reads_a_set_key_that_was_deleted(rt: HostRuntime) {
 }
 
 #[test]
+fn leaves_out_what_nobody_names(rt: HostRuntime) {
+    let Some(mut rows) = rows_of(&ROWS_METADATA, &ROWS_BODY) else {
+        assert!(rt; false, "one row");
+        return;
+    };
+    assert!(rt; rows.again().skip_unnamed(&[1]) == 0);
+    assert!(rt; rows.skip_unnamed(&[2]) == 1 && rows.next().is_none());
+}
+
+#[test]
 fn reads_a_row_without_value_and_successors(rt: HostRuntime) {
     let metadata: [u8; 9] = [0x04, 0x15, 0x03, 0x21, 0x02, 0x23, 0x02, 0x42, 0x02];
     let body: [u8; 9] = [0x7f, 0x01, 0x61, 0x7f, 0x00, 0x7f, 0x01, 0x7f, 0x01];

@@ -1,6 +1,5 @@
 use Rattle.std.proofs.Common.{Some, ◌∙◌, map, length, arith}
 use Rattle.std.proofs.lemmas.List.{length-map}
-use Rattle.am_types.specs.Documents.{unless_empty}
 use Rattle.am_fields.specs.Columns.{Deltas, Actors, Raw, Counts, Times, Messages, Extras}
 use Rattle.am_fields.specs.Extras.{extra_value}
 use Rattle.am_fields.specs.Layout.{whole, flat}
