@@ -8,8 +8,8 @@ use crate::parts::{push_actors, push_hashes, push_suffix};
 use am_types::{ActorId, Bytes, Hash, List};
 use std::alloc::{AllocError, Global};
 
-// The actors, the heads, the metadata and then the bodies of the columns of change rows and of operation rows, and the
-// places of the heads.
+/// The actors, the heads, the metadata and then the bodies of the columns of change rows and of operation rows, and the
+/// places of the heads, one after another.
 pub fn joined(
     alloc: Global,
     actors: &[ActorId],

@@ -1,5 +1,5 @@
 use Rattle.std.proofs.Common.{◌∙◌, refl}
-use Rattle.am_doc.proofs.Joined.{seven}
+use Rattle.am_doc.proofs.InOrder.{seven}
 use Rattle.am_doc.proofs.join.joined.Goals as goal
 
 pub returns : goal.returns
