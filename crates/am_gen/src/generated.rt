@@ -8,7 +8,7 @@ ghost use Rattle.am_gen.specs.Made.{first, in_round, made};
 use crate::hashes::hashes_with;
 use crate::operations::{first, in_round};
 use am_change::hash_of;
-use am_types::{Change, Hash, List, Twin, hash_known};
+use am_types::{Change, Hash, List, SharedActors, Twin, hash_known};
 use std::alloc::{AllocError, Global};
 
 // The hash of a change.
@@ -32,7 +32,8 @@ pub fn made(alloc: Global, n: u64) -> Result<List<Change>, AllocError>
     if n == 0 {
         return Ok(changes);
     }
-    let start = first(alloc)?;
+    let mut actors = SharedActors::new(alloc);
+    let start = first(alloc, &mut actors)?;
     let mut before = hashes_with(alloc, &[], digest_of(alloc, &start)?)?;
     changes.push(start)?;
     let mut here = List::new(alloc);
@@ -40,7 +41,7 @@ pub fn made(alloc: Global, n: u64) -> Result<List<Change>, AllocError>
     let mut author = 0;
     let mut count = 1;
     while count < n {
-        let change = in_round(alloc, round, author, before.copy(alloc)?)?;
+        let change = in_round(alloc, &mut actors, round, author, before.copy(alloc)?)?;
         let with_this = hashes_with(alloc, here.as_slice(), digest_of(alloc, &change)?)?;
         changes.push(change)?;
         if author == 2 {

@@ -3,7 +3,7 @@ ghost use Rattle.std.specs.Prelude.{◌≡◌, ◌≤◌, ◌%◌, IfOk};
 ghost use Rattle.am_gen.specs.Made.{op, change, makes_text, sets_counter, first, inserts, counts, set_before, sets, deletes, ends, in_round};
 
 use crate::parts::{actor, id, key, last, none, number, one, set_in, the_text, value};
-use am_types::{Bytes, Change, Hash, Key, List, ObjId, Op, OpId, RawValue, Text};
+use am_types::{Bytes, Change, Hash, Key, List, ObjId, Op, OpId, RawValue, SharedActors, Text};
 use std::alloc::{AllocError, Global};
 
 // An operation that inserts nothing.
@@ -25,6 +25,7 @@ fn op(object: ObjId, key: Key, action: u8, value: RawValue, preds: List<OpId>) -
 // A change.
 fn change(
     alloc: Global,
+    actors: &mut SharedActors,
     deps: List<Hash>,
     number: u64,
     seq: u64,
@@ -35,7 +36,7 @@ fn change(
 {
     Ok(Change {
         deps,
-        actor: actor(alloc, number)?,
+        actor: actor(alloc, actors, number)?,
         seq,
         start,
         time: 0,
@@ -46,7 +47,7 @@ fn change(
 }
 
 /// The first change.
-pub fn first(alloc: Global) -> Result<Change, AllocError>
+pub fn first(alloc: Global, actors: &mut SharedActors) -> Result<Change, AllocError>
     ensures { IfOk result (λ c. c ≡ first) }
 {
     let mut ops = List::new(alloc);
@@ -54,11 +55,16 @@ pub fn first(alloc: Global) -> Result<Change, AllocError>
     ops.push(op(ObjId::Root, key(alloc, "text")?, 4, nothing, none(alloc)))?;
     let zero = value(alloc, 8, &[0])?;
     ops.push(op(ObjId::Root, key(alloc, "n")?, 1, zero, none(alloc)))?;
-    change(alloc, List::new(alloc), 0, 1, 1, ops)
+    change(alloc, actors, List::new(alloc), 0, 1, 1, ops)
 }
 
 // The place of the letter that an actor inserts.
-fn place(alloc: Global, round: u64, author: u64) -> Result<Key, AllocError>
+fn place(
+    alloc: Global,
+    actors: &mut SharedActors,
+    round: u64,
+    author: u64,
+) -> Result<Key, AllocError>
     requires some { 1 ≤ round }
     requires few { round ≤ 100000 }
     ensures { IfOk result (λ key. key ≡ (inserts round author).key) }
@@ -66,11 +72,16 @@ fn place(alloc: Global, round: u64, author: u64) -> Result<Key, AllocError>
     if round == 1 {
         return Ok(Key::Head);
     }
-    Ok(Key::Elem(last(alloc, round, author)?))
+    Ok(Key::Elem(last(alloc, actors, round, author)?))
 }
 
 // Inserts a letter.
-fn inserts(alloc: Global, round: u64, author: u64) -> Result<Op, AllocError>
+fn inserts(
+    alloc: Global,
+    actors: &mut SharedActors,
+    round: u64,
+    author: u64,
+) -> Result<Op, AllocError>
     requires some { 1 ≤ round }
     requires few { round ≤ 100000 }
     requires three { author ≤ 2 }
@@ -78,8 +89,8 @@ fn inserts(alloc: Global, round: u64, author: u64) -> Result<Op, AllocError>
 {
     let letter = 97 + ((round + author) % 26) as u8;
     Ok(Op {
-        obj: the_text(alloc)?,
-        key: place(alloc, round, author)?,
+        obj: the_text(alloc, actors)?,
+        key: place(alloc, actors, round, author)?,
         insert: true,
         action: 1,
         value: value(alloc, 6, &[letter])?,
@@ -90,16 +101,20 @@ fn inserts(alloc: Global, round: u64, author: u64) -> Result<Op, AllocError>
 }
 
 // Counts one more change.
-fn counts(alloc: Global) -> Result<Op, AllocError>
+fn counts(alloc: Global, actors: &mut SharedActors) -> Result<Op, AllocError>
     ensures { IfOk result (λ op. op ≡ counts) }
 {
     let amount = value(alloc, 4, &[1])?;
-    let preds = one(alloc, id(alloc, 2, 0)?)?;
+    let preds = one(alloc, id(alloc, actors, 2, 0)?)?;
     Ok(op(ObjId::Root, key(alloc, "n")?, 5, amount, preds))
 }
 
 // What was set before this round.
-fn set_before(alloc: Global, round: u64) -> Result<List<OpId>, AllocError>
+fn set_before(
+    alloc: Global,
+    actors: &mut SharedActors,
+    round: u64,
+) -> Result<List<OpId>, AllocError>
     requires some { 1 ≤ round }
     requires few { round ≤ 100000 }
     ensures { IfOk result (λ ids. ids ≡ set_before round) }
@@ -108,18 +123,18 @@ fn set_before(alloc: Global, round: u64) -> Result<List<OpId>, AllocError>
         return Ok(none(alloc));
     }
     if (round - 1) % 3 == 0 {
-        return set_in(alloc, round - 2);
+        return set_in(alloc, actors, round - 2);
     }
-    set_in(alloc, round - 1)
+    set_in(alloc, actors, round - 1)
 }
 
 // Sets the key k to the round.
-fn sets(alloc: Global, round: u64) -> Result<Op, AllocError>
+fn sets(alloc: Global, actors: &mut SharedActors, round: u64) -> Result<Op, AllocError>
     requires some { 1 ≤ round }
     requires few { round ≤ 100000 }
     ensures { IfOk result (λ op. op ≡ sets round) }
 {
-    let preds = set_before(alloc, round)?;
+    let preds = set_before(alloc, actors, round)?;
     Ok(op(
         ObjId::Root,
         key(alloc, "k")?,
@@ -130,31 +145,43 @@ fn sets(alloc: Global, round: u64) -> Result<Op, AllocError>
 }
 
 // Deletes the letter that the actor inserted in the round before.
-fn deletes(alloc: Global, round: u64, author: u64) -> Result<Op, AllocError>
+fn deletes(
+    alloc: Global,
+    actors: &mut SharedActors,
+    round: u64,
+    author: u64,
+) -> Result<Op, AllocError>
     requires some { 1 ≤ round }
     requires few { round ≤ 100000 }
     ensures { IfOk result (λ op. op ≡ deletes round author) }
 {
-    let preds = one(alloc, last(alloc, round, author)?)?;
-    let place = Key::Elem(last(alloc, round, author)?);
-    Ok(op(the_text(alloc)?, place, 3, value(alloc, 0, &[])?, preds))
+    let preds = one(alloc, last(alloc, actors, round, author)?)?;
+    let place = Key::Elem(last(alloc, actors, round, author)?);
+    Ok(op(
+        the_text(alloc, actors)?,
+        place,
+        3,
+        value(alloc, 0, &[])?,
+        preds,
+    ))
 }
 
 // The last operation of a change.
-fn ends(alloc: Global, round: u64, author: u64) -> Result<Op, AllocError>
+fn ends(alloc: Global, actors: &mut SharedActors, round: u64, author: u64) -> Result<Op, AllocError>
     requires some { 1 ≤ round }
     requires few { round ≤ 100000 }
     ensures { IfOk result (λ op. op ≡ ends round author) }
 {
     if round % 3 == 0 {
-        return deletes(alloc, round, author);
+        return deletes(alloc, actors, round, author);
     }
-    sets(alloc, round)
+    sets(alloc, actors, round)
 }
 
 /// The change of an actor in a round.
 pub fn in_round(
     alloc: Global,
+    actors: &mut SharedActors,
     round: u64,
     author: u64,
     deps: List<Hash>,
@@ -165,9 +192,9 @@ pub fn in_round(
     ensures { IfOk result (λ c. c ≡ in_round round author deps) }
 {
     let mut ops = List::new(alloc);
-    ops.push(inserts(alloc, round, author)?)?;
-    ops.push(counts(alloc)?)?;
-    ops.push(ends(alloc, round, author)?)?;
+    ops.push(inserts(alloc, actors, round, author)?)?;
+    ops.push(counts(alloc, actors)?)?;
+    ops.push(ends(alloc, actors, round, author)?)?;
     let seq = if author == 0 { round + 1 } else { round };
-    change(alloc, deps, author, seq, 3 * round, ops)
+    change(alloc, actors, deps, author, seq, 3 * round, ops)
 }

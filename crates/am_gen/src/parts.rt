@@ -5,11 +5,11 @@ ghost use Rattle.am_types.specs.declared.Key.TheVariants.{Name};
 ghost use Rattle.am_gen.specs.Made.{actor, id, value, the_text, set_in, last};
 
 use am_leb::push_u;
-use am_types::{ActorFault, ActorId, Bytes, Key, List, ObjId, OpId, RawValue, Text};
+use am_types::{ActorFault, ActorId, Bytes, Key, List, ObjId, OpId, RawValue, SharedActors, Text};
 use std::alloc::{AllocError, Global};
 
-/// The actor of this number.
-pub fn actor(alloc: Global, number: u64) -> Result<ActorId, AllocError>
+/// The actor of this number. It is one of the actors that come again.
+pub fn actor(alloc: Global, actors: &mut SharedActors, number: u64) -> Result<ActorId, AllocError>
     ensures { IfOk result (λ a. a ≡ actor number) }
 {
     let byte = if number == 0 {
@@ -19,7 +19,7 @@ pub fn actor(alloc: Global, number: u64) -> Result<ActorId, AllocError>
     } else {
         0xc3
     };
-    match ActorId::of(alloc, &[byte]) {
+    match actors.of(alloc, &[byte]) {
         Ok(actor) => Ok(actor),
         Err(ActorFault::NoMemory) => Err(AllocError),
         Err(ActorFault::Length) => unreachable!(),
@@ -27,18 +27,23 @@ pub fn actor(alloc: Global, number: u64) -> Result<ActorId, AllocError>
 }
 
 /// An id of this actor.
-pub fn id(alloc: Global, counter: u64, number: u64) -> Result<OpId, AllocError>
+pub fn id(
+    alloc: Global,
+    actors: &mut SharedActors,
+    counter: u64,
+    number: u64,
+) -> Result<OpId, AllocError>
     ensures { IfOk result (λ i. i ≡ id counter number) }
 {
-    let actor = actor(alloc, number)?;
+    let actor = actor(alloc, actors, number)?;
     Ok(OpId { counter, actor })
 }
 
 /// The text that all write.
-pub fn the_text(alloc: Global) -> Result<ObjId, AllocError>
+pub fn the_text(alloc: Global, actors: &mut SharedActors) -> Result<ObjId, AllocError>
     ensures { IfOk result (λ object. object ≡ the_text) }
 {
-    Ok(ObjId::Made(id(alloc, 1, 0)?))
+    Ok(ObjId::Made(id(alloc, actors, 1, 0)?))
 }
 
 /// A key of a map.
@@ -85,23 +90,32 @@ pub fn one(alloc: Global, id: OpId) -> Result<List<OpId>, AllocError>
 }
 
 /// What the three changes of a round set the key k to.
-pub fn set_in(alloc: Global, round: u64) -> Result<List<OpId>, AllocError>
+pub fn set_in(
+    alloc: Global,
+    actors: &mut SharedActors,
+    round: u64,
+) -> Result<List<OpId>, AllocError>
     requires { round ≤ 100000 }
     ensures { IfOk result (λ ids. ids ≡ set_in round) }
 {
     let counter = 3 * round + 2;
     let mut ids = List::new(alloc);
-    ids.push(id(alloc, counter, 0)?)?;
-    ids.push(id(alloc, counter, 1)?)?;
-    ids.push(id(alloc, counter, 2)?)?;
+    ids.push(id(alloc, actors, counter, 0)?)?;
+    ids.push(id(alloc, actors, counter, 1)?)?;
+    ids.push(id(alloc, actors, counter, 2)?)?;
     Ok(ids)
 }
 
 /// The element that the actor inserted in the round before.
-pub fn last(alloc: Global, round: u64, number: u64) -> Result<OpId, AllocError>
+pub fn last(
+    alloc: Global,
+    actors: &mut SharedActors,
+    round: u64,
+    number: u64,
+) -> Result<OpId, AllocError>
     requires some { 1 ≤ round }
     requires few { round ≤ 100000 }
     ensures { IfOk result (λ i. i ≡ last round number) }
 {
-    id(alloc, 3 * round - 3, number)
+    id(alloc, actors, 3 * round - 3, number)
 }
