@@ -356,6 +356,7 @@ fn keep_each(
     ensures ok { OnOk result (KeepsEach (words_of texts.new) author change.now (length change.now.ops) kept.old.items kept.new.items) }
 {
     let ops = change.ops.as_slice();
+    kept.reserve(ops.len())?;
     let mut last = Last {
         actor: change.actor.as_slice(),
         author,

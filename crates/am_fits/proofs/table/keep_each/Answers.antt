@@ -1,6 +1,9 @@
-use Rattle.std.proofs.Common.{◌≡◌, ◌∙◌, ◌<◌, length, get_or, Some, ap, sym, subst, arith}
+use Rattle.std.proofs.Common.{◌≡◌, ◌∙◌, ◌<◌, length, get_or, List, [], Some, ap, sym, subst, arith}
+use Rattle.std.proofs.lemmas.List.{append-nil}
 use Rattle.am_graph.specs.Reaches.{number}
 use Rattle.am_fits.specs.Words.{words_of}
+use Rattle.am_fits.specs.declared.table.Kept.{Kept}
+use Rattle.am_fits.specs.Tables.{KeepsEach}
 use Rattle.am_fits.proofs.Adding.{keeps_none, keeps_more}
 use Rattle.am_fits.proofs.table.keep_each.Goals as goal
 
@@ -9,7 +12,8 @@ loop-i-init c = record {
   grow = record { authors = λ t n e. e; names = λ t n e. e };
   author = c.requires.author;
   last = subst (λ a. number (words_of c.args.texts.now).authors a ≡ Some c.args.author) (sym c.as_slice.ensures.value) c.requires.author;
-  keeps = keeps_none (words_of c.args.texts.now) c.args.author c.args.change.now c.args.kept.now.items;
+  keeps = subst (λ (ks : List Kept). KeepsEach (words_of c.args.texts.now) c.args.author c.args.change.now 0 c.args.kept.now.items ks) (sym c.reserve.ensures.items)
+      (keeps_none (words_of c.args.texts.now) c.args.author c.args.change.now c.args.kept.now.items);
 }
 
 pub loop-i-preserved : goal.loop-i-preserved
@@ -27,3 +31,6 @@ loop-i-preserved c =
       keeps = keeps_more (words_of c.loop-i.texts) (words_of c.kept.new.self) grow c.args.author c.args.change.now h.author i op l at c.in_ok-one.one c.in_ok-one.ensures.fact
           c.args.kept.now.items c.loop-i.kept.items c.push.new.self.items h.keeps c.in_ok-push.ensures.items;
     }
+
+pub returns-in_err-reserve-clause-begins : goal.returns-in_err-reserve-clause-begins
+returns-in_err-reserve-clause-begins c = ([], c.reserve.ensures.items ∙ sym (append-nil c.args.kept.now.items))
