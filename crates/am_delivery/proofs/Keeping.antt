@@ -1,13 +1,14 @@
 -- A delivery leaves only what was there or came.
-use Rattle.std.proofs.Common.{◌≡◌, List, [], ◌∷◌, ◌++◌, Bool, true, false, cond, Option, Some, None, inl, inr, Contains}
+use Rattle.std.proofs.Common.{◌≡◌, List, [], ◌∷◌, ◌++◌, Bool, true, false, cond, Option, Some, None, inl, inr, subst, Contains}
 use Rattle.std.proofs.lemmas.List.Elements.{Contains-append_left, Contains-append_right, Contains-append_cases}
+use Rattle.std.proofs.lemmas.List.Sorted.{Contains-permutation, IsPermutation-sym}
 use Rattle.am_types.specs.declared.Rejected.{Rejected}
 use Rattle.am_types.specs.declared.Verdict.{Verdict}
 use Rattle.am_types.specs.declared.Verdict.TheVariants.{Fits}
 use Rattle.am_types.specs.Same.{same_change}
 use Rattle.am_types.specs.Members.{Member, member}
 use Rattle.am_types.specs.Verdicts.{verdict}
-use Rattle.am_types.specs.Deliver.{Sets, ready, without, admit_by, admit, receive, receive_by, settle, deliver}
+use Rattle.am_types.specs.Deliver.{Sets, Alike, ready, without, admit_by, admit, receive, receive_by, settle, deliver}
 use Rattle.am_laws.proofs.Listings.{settle-keeps}
 use Rattle.am_delivery.specs.Laws.{KeepsWhatCame}
 use Rattle.am_delivery.proofs.Lists.{Within, Within-add}
@@ -41,6 +42,27 @@ inside_all E s [] w y = y
 inside_all E s (m ∷ L) w y =
     inside_all E (receive_by (member (s.closed ++ s.waiting) m.hash) m s) L (λ n c. w n (Rattle.am_delivery.proofs.Lists.Contains-later m L n c))
     (inside_receive E (member (s.closed ++ s.waiting) m.hash) m s (w m (Rattle.am_delivery.proofs.Lists.Contains-here m L)) y)
+
+-- the waiting ones alone
+waits_within : (E : List Member) (o : Option Member) (m : Member) (s : Sets) → Contains E m → Within s.waiting E → Within (receive_by o m s).waiting E
+waits_within E None m s c w = Within-add s.waiting E m w c
+waits_within E (Some held) m s c w = besides (same_change held.change m.change) _
+  where
+    besides : (b : Bool) (R : List Rejected) → Within (cond b s (record { closed = s.closed; waiting = s.waiting; rejected = R })).waiting E
+    besides true R = w
+    besides false R = w
+
+all_within : (E : List Member) (s : Sets) (L : List Member) → Within L E → Within s.waiting E → Within (receive s L).waiting E
+all_within E s [] w y = y
+all_within E s (m ∷ L) w y =
+    all_within E (receive_by (member (s.closed ++ s.waiting) m.hash) m s) L (λ n c. w n (Rattle.am_delivery.proofs.Lists.Contains-later m L n c))
+    (waits_within E (member (s.closed ++ s.waiting) m.hash) m s (w m (Rattle.am_delivery.proofs.Lists.Contains-here m L)) y)
+
+-- what waits when all are received was there or came
+pub received_within : (s t : Sets) (W L : List Member) → s.waiting ≡ W → Alike (receive s L) t → (m : Member) → Contains t.waiting m → Contains (W ++ L) m
+received_within s t W L e a m c =
+    all_within (W ++ L) s L (λ n d. Contains-append_right W L n d) (λ n d. Contains-append_left W L n (subst (λ V. Contains V n) e d)) m
+    (Contains-permutation t.waiting (receive s L).waiting m (IsPermutation-sym (receive s L).waiting t.waiting a.waiting) c)
 
 pub keeps_what_came : KeepsWhatCame
 unfolding deliver

@@ -3,11 +3,12 @@ use Rattle.std.proofs.Common.{ℕ, ◌≡◌, ◌<◌, ◌+◌, length, take, ge
 use Rattle.std.specs.BTreeMap.{get, IsOrdered}
 use Rattle.std.proofs.lemmas.Bool.{both_ways, or_parts, false_from_ne_true}
 use Rattle.std.proofs.lemmas.List.{append-nil, append_assoc, map-append, take_more}
+use Rattle.std.proofs.lemmas.List.Elements.{Contains-append_cases}
 use Rattle.std.proofs.lemmas.Map.Views.{btree_map_get_iff}
 use Rattle.am_types.specs.declared.Hash.{Hash}
 use Rattle.am_types.specs.declared.Change.{Change}
 use Rattle.am_types.specs.Order.{hash_cmp, same, among}
-use Rattle.am_types.specs.Members.{Member, member, holds}
+use Rattle.am_types.specs.Members.{Member, hashes, member, holds}
 use Rattle.am_types.specs.Deliver.{without}
 use Rattle.am_types.proofs.Orders.{hash_total, hash_exact, same_hash-true, same_hash_itself}
 use Rattle.am_laws.proofs.Ancestry.{Contains-from_filter}
@@ -67,6 +68,25 @@ joins_next w ordered hs gs m c C D E d e new n =
     e ∙ ap (λ l. l ++ m ∷ []) d ∙ append_assoc C (taken_out hs W) (m ∷ [])
     ∙ ap (λ V. C ++ (taken_out hs W ++ V)) (sym (one_with (remaining hs W) apart m within))
     ∙ ap (λ l. C ++ l) (sym (taken_more hs m.hash W)) ∙ ap (λ l. C ++ taken_out l W) (sym n)
+
+-- and its hash the next of theirs
+pub named_next : (w : BTreeMap Hash Change) → IsOrdered hash_cmp w → (hs gs : List Hash) (m : Member) → Contains (remaining (hs ++ gs) (waiting_of w)) m
+    → (new : List Hash) → new ≡ hs ++ m.hash ∷ [] → hashes (taken_out hs (waiting_of w)) ≡ hs → hashes (taken_out new (waiting_of w)) ≡ new
+named_next w ordered hs gs m c new n had =
+    let out : List Member = taken_out hs (waiting_of w) in
+    let more : out ++ m ∷ [] ≡ taken_out new (waiting_of w) = joins_next w ordered hs gs m c [] out (out ++ m ∷ []) refl refl new n in
+    ap hashes (sym more) ∙ map-append (λ (k : Member). k.hash) out (m ∷ []) ∙ ap (λ l. l ++ m.hash ∷ []) had ∙ sym n
+
+-- ---- what is taken out was there
+
+pub taken_within : (hs : List Hash) (W : List Member) (m : Member) → Contains (taken_out hs W) m → Contains W m
+taken_within [] W m c = absurd (Contains-none m c)
+taken_within (h ∷ hs) W m c =
+    let others : Contains (taken_out hs (without h W)) m → Contains (without h W) m = taken_within hs (without h W) m in
+    elim (Contains-append_cases (with_hash h W) (taken_out hs (without h W)) m c) [
+      | inl a ↦ (Contains-from_filter (λ (k : Member). same hash_cmp h k.hash) W m a).0
+      | inr b ↦ (Contains-from_filter (λ (k : Member). not (same hash_cmp h k.hash)) W m (others b)).0
+    ]
 
 no_member : (o : Option Member) → option_map change_of o ≡ None → o ≡ None
 no_member None e = refl

@@ -1,4 +1,5 @@
 pub mod Laws
+pub mod Samples
 pub mod Tracking
 pub mod Views
 pub mod Waiting

@@ -1,6 +1,6 @@
 //! Settling, by the queue of the changes that lack nothing.
 ghost use Rattle.std.specs.Prelude.{◌≡◌, ◌++◌, List, All, IfOk, OnOk, MatchBool, MatchOption, vec_items};
-ghost use Rattle.am_types.specs.Members.{Member};
+ghost use Rattle.am_types.specs.Members.{Member, hashes};
 ghost use Rattle.am_types.specs.ValidSets.{Valid};
 ghost use Rattle.am_types.specs.Deliver.{Sets, TakesOne, IsSettled, Waits, admit_by, turned_away, settle};
 ghost use Rattle.am_delivery.specs.Tracking.{Tracks};
@@ -53,6 +53,7 @@ fn admit_next<S: Closed>(
         let new : Sets = record { closed = S.members closed.new; waiting = remaining (all_gone gone.new) (waiting_of waiting.now); rejected = vec_items rejected.new } in
         IfOk result (λ taken. MatchBool taken (TakesOne old new) ((new ≡ old) × IsSettled old)) }
     ensures joined { OnOk result ((C : List Member) → S.members closed.old ≡ C ++ taken_out (vec_items gone.old.joined) (waiting_of waiting.now) → S.members closed.new ≡ C ++ taken_out (vec_items gone.new.joined) (waiting_of waiting.now)) }
+    ensures named { OnOk result (hashes (taken_out (vec_items gone.old.joined) (waiting_of waiting.now)) ≡ vec_items gone.old.joined → hashes (taken_out (vec_items gone.new.joined) (waiting_of waiting.now)) ≡ vec_items gone.new.joined) }
     ensures base { S.base closed.new ≡ S.base closed.old }
 {
     let _count = waiting.len();
@@ -92,6 +93,7 @@ pub fn settle_all<S: Closed>(
         IfOk result (λ gone. ◌≡◌ {A = Sets} (record { closed = S.members closed.new; waiting = remaining (all_gone gone) (waiting_of waiting.now); rejected = vec_items rejected.new }) (settle old)) }
     ensures tracks { IfOk result (λ gone. Tracks (S.members closed.new) (remaining (all_gone gone) (waiting_of waiting.now)) (tracker pending.new)) }
     ensures joined { IfOk result (λ gone. S.members closed.new ≡ S.members closed.old ++ taken_out (vec_items gone.joined) (waiting_of waiting.now)) }
+    ensures named { IfOk result (λ gone. hashes (taken_out (vec_items gone.joined) (waiting_of waiting.now)) ≡ vec_items gone.joined) }
     ensures base { S.base closed.new ≡ S.base closed.old }
 {
     let mut gone = Gone {

@@ -1,6 +1,6 @@
 //! A closed set of changes that can grow.
-ghost use Rattle.std.specs.Prelude.{◌≡◌, ◌++◌, ◌∷◌, [], List, IfOk, OnOk, IsTrue, Some, option_map};
-ghost use Rattle.am_types.specs.Members.{Member, member, holds, holds_deps};
+ghost use Rattle.std.specs.Prelude.{◌≡◌, ◌++◌, ◌∷◌, [], List, All, IfOk, OnOk, OnErr, IsTrue, Some, map, option_map};
+ghost use Rattle.am_types.specs.Members.{Member, changes, member, holds, holds_deps};
 ghost use Rattle.am_types.specs.Same.{same_change};
 ghost use Rattle.am_types.specs.Fine.{Fine};
 ghost use Rattle.am_types.specs.Verdicts.{verdict};
@@ -10,12 +10,15 @@ use am_types::{Change, Hash, Verdict};
 use std::alloc::{AllocError, Global};
 
 /// A closed set of changes that can grow. It is at rest where its members are its base: no change has joined it since it
-/// was handed over. Only at rest is it asked for a change, so it needn't keep those that join it.
+/// was handed over or finished. Only at rest is it asked for a change, so it needn't keep those that join it.
 pub trait Closed {
     ghost members: { Self → List Member };
 
     // The members at rest, which stay as they are while changes join.
     ghost base: { Self → List Member };
+
+    // What is known of each change that comes, beside its hash.
+    ghost admits: { Member → Type 0 };
 
     /// Whether a change has this hash.
     fn holds(&self, hash: &Hash) -> bool
@@ -40,4 +43,12 @@ pub trait Closed {
         requires joins { Joins (members self.old) (record { hash = hash; change = change.now }) }
         ensures joined { OnOk result (members self.new ≡ members self.old ++ record { hash = hash; change = change.now } ∷ []) }
         ensures base { base self.new ≡ base self.old };
+
+    /// Brings the set to rest with the changes that have joined, which are lent in the order in which they did. It is asked
+    /// once, when a delivery is settled. Without memory what was at rest has stayed.
+    fn finish(&mut self, alloc: Global, joined: &[&Change]) -> Result<(), AllocError>
+        requires joined { (E : List Member) × (members self.old ≡ base self.old ++ E) × (changes E ≡ map (λ c. c.now) joined.now) × All admits E }
+        ensures members { OnOk result (members self.new ≡ members self.old) }
+        ensures rest { OnOk result (base self.new ≡ members self.old) }
+        ensures base { OnErr result (base self.new ≡ base self.old) };
 }

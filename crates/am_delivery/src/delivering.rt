@@ -1,6 +1,7 @@
 //! A whole delivery.
-ghost use Rattle.std.specs.Prelude.{◌≡◌, ◌≤◌, ◌+◌, ◌++◌, [], All, IfOk, OnOk, OnErr, IsPermutation, None, length, vec_capacity, vec_items, vec_len};
+ghost use Rattle.std.specs.Prelude.{◌≡◌, ◌≤◌, ◌+◌, ◌++◌, [], All, Contains, IfOk, OnOk, OnErr, IsPermutation, None, length, vec_capacity, vec_items, vec_len};
 ghost use Rattle.am_types.specs.Deliver.{MayCome, AreStored, deliver as delivered};
+ghost use Rattle.am_types.specs.Members.{Member, hashes};
 ghost use Rattle.am_delivery.specs.Tracking.{Tracks};
 ghost use Rattle.am_delivery.specs.Views.{tracker};
 ghost use Rattle.am_delivery.specs.Waiting.{members_of, waiting_of, remaining, taken_out, all_gone, IsTracked};
@@ -8,6 +9,7 @@ ghost use Rattle.am_delivery.specs.Waiting.{members_of, waiting_of, remaining, t
 use crate::admitting::{Gone, settle_all};
 use crate::arriving::{lacking, receive_all};
 use crate::closed::Closed;
+use crate::finishing::finish_with;
 use crate::pending::Pending;
 use crate::removing::{move_all, remove_all};
 use am_types::{Change, Hash, List, Rejected};
@@ -87,10 +89,12 @@ fn take_in<S: Closed>(
     ensures waiting { IfOk result (λ o. IsPermutation (delivered (S.members closed.old) (waiting_of waiting.old) (members_of (vec_items changes))).waiting (remaining (all_gone o.gone) (waiting_of waiting.new))) }
     ensures rejected { IfOk result (λ o. vec_items o.rejected ≡ (delivered (S.members closed.old) (waiting_of waiting.old) (members_of (vec_items changes))).rejected) }
     ensures joined { IfOk result (λ o. S.members closed.new ≡ S.members closed.old ++ taken_out (vec_items o.gone.joined) (waiting_of waiting.new)) }
+    ensures named { IfOk result (λ o. hashes (taken_out (vec_items o.gone.joined) (waiting_of waiting.new)) ≡ vec_items o.gone.joined) }
     ensures empty { IfOk result (λ o. vec_items o.room ≡ []) }
     ensures room { IfOk result (λ o. vec_len o.room + length (vec_items o.gone.joined) ≤ vec_capacity o.room) }
     ensures stored { IfOk result (λ o. AreStored (S.members closed.new) (remaining (all_gone o.gone) (waiting_of waiting.new))) }
     ensures base { S.base closed.new ≡ S.base closed.old }
+    ensures came { OnOk result ((m : Member) → Contains (waiting_of waiting.new) m → Contains (waiting_of waiting.old ++ members_of (vec_items changes)) m) }
     ensures tracks { IfOk result (λ o. Tracks (S.members closed.new) (remaining (all_gone o.gone) (waiting_of waiting.new)) (tracker pending.new)) }
     ensures kept { remaining (vec_items came.new) (waiting_of waiting.new) ≡ remaining (vec_items came.old) (waiting_of waiting.old) }
 {
@@ -113,13 +117,44 @@ fn take_in<S: Closed>(
     })
 }
 
+/// The same, and the closed set comes to rest. Then nothing is left that can fail.
+fn take_up<S: Closed>(
+    alloc: Global,
+    closed: &mut S,
+    waiting: &mut BTreeMap<Hash, Change>,
+    pending: &mut Pending,
+    came: &mut Vec<Hash>,
+    changes: Vec<(Hash, Change)>,
+) -> Result<Outcome, AllocError>
+    requires rest { S.members closed.old ≡ S.base closed.old }
+    requires stored { AreStored (S.members closed.old) (waiting_of waiting.old) }
+    requires may_come { All MayCome (members_of (vec_items changes)) }
+    requires admitted { All S.admits (waiting_of waiting.old ++ members_of (vec_items changes)) }
+    requires tracks { Tracks (S.members closed.old) (waiting_of waiting.old) (tracker pending.old) }
+    ensures closed { OnOk result (S.members closed.new ≡ (delivered (S.members closed.old) (waiting_of waiting.old) (members_of (vec_items changes))).closed) }
+    ensures waiting { IfOk result (λ o. IsPermutation (delivered (S.members closed.old) (waiting_of waiting.old) (members_of (vec_items changes))).waiting (remaining (all_gone o.gone) (waiting_of waiting.new))) }
+    ensures rejected { IfOk result (λ o. vec_items o.rejected ≡ (delivered (S.members closed.old) (waiting_of waiting.old) (members_of (vec_items changes))).rejected) }
+    ensures joined { IfOk result (λ o. S.members closed.new ≡ S.members closed.old ++ taken_out (vec_items o.gone.joined) (waiting_of waiting.new)) }
+    ensures empty { IfOk result (λ o. vec_items o.room ≡ []) }
+    ensures room { IfOk result (λ o. vec_len o.room + length (vec_items o.gone.joined) ≤ vec_capacity o.room) }
+    ensures stored { IfOk result (λ o. AreStored (S.members closed.new) (remaining (all_gone o.gone) (waiting_of waiting.new))) }
+    ensures rest { OnOk result (S.members closed.new ≡ S.base closed.new) }
+    ensures base { OnErr result (S.base closed.new ≡ S.base closed.old) }
+    ensures tracks { IfOk result (λ o. Tracks (S.members closed.new) (remaining (all_gone o.gone) (waiting_of waiting.new)) (tracker pending.new)) }
+    ensures kept { remaining (vec_items came.new) (waiting_of waiting.new) ≡ remaining (vec_items came.old) (waiting_of waiting.old) }
+{
+    let outcome = take_in(alloc, closed, waiting, pending, came, changes)?;
+    finish_with(alloc, closed, waiting, outcome.gone.joined.as_slice())?;
+    Ok(outcome)
+}
+
 /// Delivers changes, each beside its hash, to a closed set at rest and the changes that wait beside it, and hands out
 /// those that have joined. A change that is held is skipped, and one whose hash another change has is rejected; the
 /// others wait. Then the ready changes, the one of least hash first, join the closed set or are rejected, until none is
 /// ready. What the waiting changes lack is kept in `pending` from delivery to delivery. It takes time in proportion to
 /// n log n, where n changes and dependencies come or wait no longer, beside what the closed set takes; where nothing is
-/// kept, all waiting changes count. Without memory the same changes wait as before, nothing is kept of what they lack,
-/// and of the closed set only what stays is known.
+/// kept, all waiting changes count. The closed set is at rest again. Without memory the same changes wait as before,
+/// nothing is kept of what they lack, and of the closed set only what was at rest is known.
 pub fn deliver<S: Closed>(
     alloc: Global,
     closed: &mut S,
@@ -131,19 +166,21 @@ pub fn deliver<S: Closed>(
     requires stored { AreStored (S.members closed.old) (waiting_of waiting.old) }
     requires tracked { IsTracked (S.members closed.old) (waiting_of waiting.old) pending.old }
     requires may_come { All MayCome (members_of (vec_items changes)) }
+    requires admitted { All S.admits (waiting_of waiting.old ++ members_of (vec_items changes)) }
     ensures closed { OnOk result (S.members closed.new ≡ (delivered (S.members closed.old) (waiting_of waiting.old) (members_of (vec_items changes))).closed) }
     ensures waiting { OnOk result (IsPermutation (delivered (S.members closed.old) (waiting_of waiting.old) (members_of (vec_items changes))).waiting (waiting_of waiting.new)) }
     ensures rejected { IfOk result (λ settled. settled.rejected ≡ (delivered (S.members closed.old) (waiting_of waiting.old) (members_of (vec_items changes))).rejected) }
     ensures joined { IfOk result (λ settled. S.members closed.new ≡ S.members closed.old ++ members_of (vec_items settled.joined)) }
     ensures stored { OnOk result (AreStored (S.members closed.new) (waiting_of waiting.new)) }
     ensures tracked { OnOk result (IsTracked (S.members closed.new) (waiting_of waiting.new) pending.new) }
-    ensures base { S.base closed.new ≡ S.base closed.old }
+    ensures rest { OnOk result (S.members closed.new ≡ S.base closed.new) }
+    ensures base { OnErr result (S.base closed.new ≡ S.base closed.old) }
     ensures err { OnErr result (waiting_of waiting.new ≡ waiting_of waiting.old) }
     ensures unknown { OnErr result (pending.new ≡ None) }
 {
     let mut lacking = take_pending(alloc, closed, waiting, pending)?;
     let mut came = Vec::new(alloc);
-    match take_in(alloc, closed, waiting, &mut lacking, &mut came, changes) {
+    match take_up(alloc, closed, waiting, &mut lacking, &mut came, changes) {
         Ok(outcome) => {
             let Outcome {
                 gone,

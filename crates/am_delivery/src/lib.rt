@@ -5,9 +5,14 @@ mod admitting;
 mod arriving;
 mod closed;
 mod delivering;
+mod finishing;
 mod laws;
 mod pending;
 mod removing;
+#[cfg(test)]
+mod sample_set;
+#[cfg(test)]
+mod tests;
 
 pub use arriving::is_same;
 pub use closed::Closed;

@@ -1,6 +1,8 @@
-use Rattle.std.proofs.Common.{rules, ◌≡◌, ◌++◌, [], All, vec_items, sym, ap, subst, ◌∙◌, refl, arith}
+use Rattle.std.proofs.Common.{rules, ◌≡◌, ◌++◌, List, [], All, vec_items, sym, ap, subst, ◌∙◌, refl, arith}
 use Rattle.std.proofs.lemmas.List.{append-nil}
 use Rattle.std.proofs.lemmas.Bool.{MatchBool-at_true, MatchBool-at_false}
+use Rattle.am_types.specs.declared.Hash.{Hash}
+use Rattle.am_types.specs.Members.{hashes}
 use Rattle.am_types.specs.Deliver.{Sets, Waits, TakesOne, IsSettled, settle}
 use Rattle.am_laws.proofs.SettleLaws.{settle_taken, settle_idle, fewer_wait}
 use Rattle.am_delivery.specs.Tracking.{Tracks}
@@ -27,6 +29,7 @@ loop-gone-preserved g c =
       tracks = c.in_ok-admit_next.ensures.tracks;
       kept = takes_kept s t took c.loop-gone.invariant.kept;
       joined = c.in_ok-admit_next.ensures.joined (g.S.Closed.members c.args.closed.now) c.loop-gone.invariant.joined;
+      named = c.in_ok-admit_next.ensures.named c.loop-gone.invariant.named;
       settles = sym (settle_taken s t took) ∙ c.loop-gone.invariant.settles;
       base = c.in_ok-admit_next.ensures.base ∙ c.loop-gone.invariant.base;
     }
@@ -42,6 +45,7 @@ loop-gone-init g c =
       tracks = subst (λ V. Tracks C V (tracker c.args.pending.now)) all c.requires.tracks;
       kept = record { valid = c.requires.valid; waits = subst (All (Waits C)) all c.requires.waits };
       joined = sym (append-nil C) ∙ ap (λ hs. C ++ taken_out hs W) first;
+      named = subst (λ (hs : List Hash). hashes (taken_out hs W) ≡ hs) first refl;
       settles = ap (λ V. settle (record { closed = C; waiting = V; rejected = vec_items c.args.rejected.now })) (sym all);
       base = refl;
     }
@@ -67,3 +71,6 @@ returns-clause-tracks g c = c.in_ok-admit_next.ensures.tracks
 
 pub returns-clause-joined : goal.returns-clause-joined
 returns-clause-joined g c = c.in_ok-admit_next.ensures.joined (g.S.Closed.members c.args.closed.now) c.loop-gone.invariant.joined
+
+pub returns-clause-named : goal.returns-clause-named
+returns-clause-named g c = c.in_ok-admit_next.ensures.named c.loop-gone.invariant.named

@@ -1,5 +1,6 @@
 use Rattle.std.proofs.Common.{◌≡◌, ◌++◌, length, vec_items}
 use Rattle.am_types.specs.Deliver.{Sets, settle}
+use Rattle.am_types.specs.Members.{hashes}
 use Rattle.am_delivery.specs.Tracking.{Tracks}
 use Rattle.am_delivery.specs.Views.{tracker}
 use Rattle.am_delivery.specs.Waiting.{waiting_of, remaining, taken_out, all_gone}
@@ -14,6 +15,7 @@ invariant-loop-gone g l =
       tracks : Tracks (g.S.Closed.members l.closed) (remaining (all_gone l.gone) (waiting_of l.waiting)) (tracker l.pending);
       kept : Kept now;
       joined : g.S.Closed.members l.closed ≡ g.S.Closed.members l.fn.closed ++ taken_out (vec_items l.gone.joined) (waiting_of l.waiting);
+      named : hashes (taken_out (vec_items l.gone.joined) (waiting_of l.waiting)) ≡ vec_items l.gone.joined;
       settles : settle now ≡ settle first;
       base : g.S.Closed.base l.closed ≡ g.S.Closed.base l.fn.closed;
     }

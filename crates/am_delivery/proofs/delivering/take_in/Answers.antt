@@ -2,6 +2,7 @@ use Rattle.std.proofs.Common.{rules, vec_items, refl}
 use Rattle.am_types.specs.Deliver.{Sets}
 use Rattle.am_delivery.specs.Waiting.{members_of, waiting_of, remaining, all_gone}
 use Rattle.am_delivery.proofs.Ends.{from_nothing, waits, ends_closed, ends_waiting, ends_rejected, ends_stored}
+use Rattle.am_delivery.proofs.Keeping.{received_within}
 use Rattle.am_delivery.proofs.delivering.take_in.Goals as goal
 
 pub settle_all-requires-clause-waits : goal.settle_all-requires-clause-waits
@@ -47,3 +48,11 @@ returns-clause-stored g c =
     let t : Sets = record { closed = C; waiting = waiting_of c.receive_all.new.waiting; rejected = vec_items c.receive_all.new.rejected } in
     let new : Sets = record { closed = g.S.Closed.members c.settle_all.new.closed; waiting = remaining (all_gone c.in_ok-gone.gone) (waiting_of c.receive_all.new.waiting); rejected = vec_items c.settle_all.new.rejected } in
     ends_stored C W L c.requires.stored c.requires.may_come t refl (from_nothing C W L t (vec_items c.new-rejected.result) (search rules) c.in_ok-receive_all.ensures.alike) new c.in_ok-gone.ensures.settles
+
+pub returns-clause-came : goal.returns-clause-came
+returns-clause-came g c =
+    let W = waiting_of c.args.waiting.now in
+    let L = members_of (vec_items c.args.changes) in
+    let s : Sets = record { closed = g.S.Closed.members c.args.closed.now; waiting = W; rejected = vec_items c.new-rejected.result } in
+    let t : Sets = record { closed = g.S.Closed.members c.args.closed.now; waiting = waiting_of c.receive_all.new.waiting; rejected = vec_items c.receive_all.new.rejected } in
+    received_within s t W L refl c.in_ok-receive_all.ensures.alike
