@@ -4,13 +4,13 @@ ghost use Rattle.am_types.specs.declared.Row.{Row};
 ghost use Rattle.am_histories.specs.Rebuilt.{change_at};
 ghost use Rattle.am_rebuild.specs.Mentions.{by_author, AreSortedMentions};
 ghost use Rattle.std.specs.List.Sorted.{IsSorted};
-ghost use Rattle.am_rebuild.specs.Joined.{TakesNext, BuildsAll, BuildsGapless};
+ghost use Rattle.am_rebuild.specs.Joined.{TakesNext, BuildsGapless};
 ghost use Rattle.std.specs.Prelude.{◌≡◌, [], ◌-◌, ◌^◌, ◌<◌, List, All, IfOk};
 
 use crate::change::change_at;
 use crate::joining::Joining;
-use crate::mention::{Named, mentions_among};
-use am_types::{Meta, Row};
+use crate::mention::Named;
+use am_types::Meta;
 use std::alloc::{AllocError, Global};
 
 /// Takes in the change of a meta, where it joins.
@@ -52,20 +52,4 @@ pub(crate) fn build_from<J: Joining>(
         }
     }
     Ok(true)
-}
-
-/// Builds the changes of the metas, until one doesn't join.
-pub fn build<J: Joining>(
-    alloc: Global,
-    joining: &mut J,
-    rows: &[Row],
-    metas: &[Meta],
-) -> Result<bool, AllocError>
-    requires empty { J.members joining.old ≡ [] }
-    requires maxes { All (λ m. m.max < 2 ^ 53) metas.now }
-    ensures { IfOk result (λ built. (t : Table) → t.rows ≡ rows.now → t.metas ≡ metas.now → BuildsAll J.hash_of t (J.members joining.new) built) }
-{
-    let all = mentions_among(alloc, rows)?;
-    let built = build_from(alloc, joining, &all, metas)?;
-    Ok(built)
 }

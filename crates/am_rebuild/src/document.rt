@@ -92,11 +92,9 @@ pub fn rebuild_whole(alloc: Global, doc: DocRef<'_>) -> Result<Rebuilt, RebuildF
     answer(gathered, judgement)
 }
 
-/// The changes of which a document tells, each behind its own hash, in the order of its change rows. Refused as `rebuild` is.
-pub fn rebuild_hashed(alloc: Global, doc: DocRef<'_>) -> Result<Vec<(Hash, Change)>, RebuildFault>
+// The changes, each behind its own hash, without the graph and the index.
+fn hashed(alloc: Global, doc: DocRef<'_>) -> Result<Vec<(Hash, Change)>, RebuildFault>
     ensures judged { Rebuilds doc.entry (without_hashes result) }
-    ensures own_hashes { IfOk result (λ pairs. AreOwn (vec_items pairs)) }
-    ensures may_come { IfOk result (λ pairs. All MayCome (members_of (vec_items pairs))) }
 {
     let rebuilt = rebuild_whole(alloc, doc)?;
     Ok(rebuilt.entries)
@@ -107,7 +105,7 @@ pub fn rebuild_hashed(alloc: Global, doc: DocRef<'_>) -> Result<Vec<(Hash, Chang
 pub fn rebuild(alloc: Global, doc: DocRef<'_>) -> Result<List<Change>, RebuildFault>
     ensures judged { Rebuilds doc.entry result }
 {
-    let pairs = rebuild_hashed(alloc, doc)?;
+    let pairs = hashed(alloc, doc)?;
     let mut changes = List::new(alloc);
     for (_, change) in pairs {
         changes.push(change)?;

@@ -22,8 +22,7 @@ mod telling;
 #[cfg(test)]
 mod tests;
 
-pub use building::build;
-pub use document::{rebuild, rebuild_hashed, rebuild_whole};
+pub use document::{rebuild, rebuild_whole};
 pub use fault::RebuildFault;
 pub use gathered::Gathered;
 pub use joining::Joining;

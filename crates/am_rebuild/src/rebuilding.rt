@@ -30,14 +30,7 @@ impl Gathered {
         }
     }
 
-    /// The changes, each behind its hash, in the order in which they joined.
-    pub fn into_entries(self) -> Vec<(Hash, Change)>
-        ensures { members_of (vec_items result) ≡ self }
-    {
-        self.entries
-    }
-
-    /// The same, with their graph and index.
+    /// The changes, each behind its hash, in the order in which they joined, with their graph and index.
     pub fn into_rebuilt(self) -> Rebuilt
         ensures entries { members_of (vec_items result.entries) ≡ self }
         ensures of_set { AreOf (members_of (vec_items result.entries)) result.graph result.index }

@@ -8,6 +8,8 @@ use am_types::{Change, Hash};
 pub struct Rebuilt {
     /// Each behind its own hash, in the order of the change rows.
     pub entries: Vec<(Hash, Change)>,
+    /// The graph of these changes, in this order.
     pub graph: Graph,
+    /// The index of their operations, in this order.
     pub index: OpIndex,
 }
