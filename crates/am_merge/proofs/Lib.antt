@@ -19,6 +19,9 @@ pub mod Tables
 pub mod ChangeRows
 pub mod Arrivals
 pub mod Placing
+pub mod Weaving
+pub mod Merged
+pub mod Names
 pub mod Goings
 pub mod Samples
 pub mod Joined
@@ -39,3 +42,6 @@ pub mod Steps
 pub mod Ranges
 pub mod NamedLaws
 pub mod Stopping
+pub mod Unnamed
+pub mod Carried
+pub mod RowsText

@@ -25,7 +25,7 @@ use Rattle.am_merge.proofs.Lists.{filter-filter, filter-map, filter_within}
 use Rattle.am_merge.proofs.Places.{object_total}
 
 pub key_total : IsTotalOrder key_cmp
-key_total = then_total (on_total (λ (k : ObjId × OpId). k.0) object_total) (on_total (λ (k : ObjId × OpId). k.1) id_total)
+key_total = then_total (on_total (λ (k : ObjId × OpId). k.1) id_total) (on_total (λ (k : ObjId × OpId). k.0) object_total)
 
 pub named_total : IsTotalOrder named_cmp
 named_total = on_total named_key key_total
@@ -56,6 +56,12 @@ eq_then : (r s : Ordering) → is_eq (ordering_then r s) ≡ (is_eq r && is_eq s
 eq_then Less s = refl
 eq_then Equal s = refl
 eq_then Greater s = refl
+
+and_turned : (a b : Bool) → (a && b) ≡ (b && a)
+and_turned true true = refl
+and_turned true false = refl
+and_turned false true = refl
+and_turned false false = refl
 
 module _ {X : Type 0} (f : X → Named) (k : ObjId × OpId) where
   abbrev less : X → Bool
@@ -119,7 +125,7 @@ ties_rise o i xs = go (filter (is_named o i) xs) (λ n c. (Contains-from_filter 
     go [] h = tt
     go (n ∷ zs) h = (none n zs (h n (Contains-head n zs)) (λ k c. h k (Contains-tail n zs k c)), go zs (λ k c. h k (Contains-tail n zs k c)))
 
-named_sorted : (o : ObjId) (i : OpId) (ys : List Named) → filter (is_named o i) (sorted_by named_cmp ys) ≡ filter (is_named o i) ys
+pub named_sorted : (o : ObjId) (i : OpId) (ys : List Named) → filter (is_named o i) (sorted_by named_cmp ys) ≡ filter (is_named o i) ys
 named_sorted o i ys = filter-sorted_by named_total (is_named o i) ys ∙ sorted_by-rising named_total (filter (is_named o i) ys) (ties_rise o i ys)
 
 -- ---- the range
@@ -135,7 +141,7 @@ module _ {X : Type 0} (f : X → Named) (o : ObjId) (i : OpId) where
   q x = is_le (key_cmp (named_key (f x)) (o, i))
 
   both : (x : X) → (not (p x) && q x) ≡ is_named o i (f x)
-  both x = eq_parts (key_cmp (named_key (f x)) k) ∙ eq_then (object_cmp (f x).obj o) (id_cmp (f x).id i)
+  both x = eq_parts (key_cmp (named_key (f x)) k) ∙ eq_then (id_cmp (f x).id i) (object_cmp (f x).obj o) ∙ and_turned (is_eq (id_cmp (f x).id i)) (is_eq (object_cmp (f x).obj o))
 
   drop_at : (xs : List X) (a j : ℕ) (d : X) → get_or (drop a xs) j d ≡ get_or xs (a + j) d
   drop_at xs a j d = get_or-drop a xs j d

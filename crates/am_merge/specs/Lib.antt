@@ -8,7 +8,9 @@ pub mod Stacks
 pub mod Spots
 pub mod Naming
 pub mod Stops
+pub mod Carrying
 pub mod Places
 pub mod ChangeRows
 pub mod Laws
 pub mod Grown
+pub mod Growing

@@ -1,14 +1,17 @@
 -- What added operations name. Here A are operations.
 --     Named              an operation beside what it names: an element of an object, or a predecessor
 --     named_of n         what the code's record stands for
---     named_key, key_cmp, named_cmp     by object, then by the id that is named
+--     named_key, key_cmp, named_cmp     by the id that is named, then by object
 --     is_named o i n     n names the id i in o
 --     references A       the operations of A that name elements, beside these
 --     predecessors A     the operations of A, beside each of their predecessors; no object is told
 --     AreTables A t      t has both, sorted: those of `hanging A`, and of A
-use Rattle.std.specs.Prelude.{Bool, ◌≡◌, ◌&&◌, List, [], ◌∷◌, map}
+--     counters_in ns     the counters of the ids that are named
+--     AreCounters t cs   cs are the counters that both tables name, ascending
+use Rattle.std.specs.Prelude.{ℕ, Bool, ◌≡◌, ◌&&◌, List, [], ◌∷◌, ◌++◌, map, IsPermutation}
 use Rattle.std.specs.List.{flat_map}
-use Rattle.std.specs.Ordering.{on, then_cmp}
+use Rattle.std.specs.List.Sorted.{IsSorted}
+use Rattle.std.specs.Ordering.{nat_cmp, on, then_cmp}
 use Rattle.std.specs.declared.cmp.Ordering.{Ordering}
 use Rattle.am_types.specs.declared.OpId.{OpId}
 use Rattle.am_types.specs.declared.ObjId.{ObjId}
@@ -34,7 +37,7 @@ abbrev pub named_of : Naming → Named
 named_of n = record { obj = object_of n.obj; id = id_of n.id; operation = operation_of n.operation }
 
 abbrev pub key_cmp : ObjId × OpId → ObjId × OpId → Ordering
-key_cmp = then_cmp (on (λ k. k.0) object_cmp) (on (λ k. k.1) id_cmp)
+key_cmp = then_cmp (on (λ k. k.1) id_cmp) (on (λ k. k.0) object_cmp)
 
 abbrev pub named_key : Named → ObjId × OpId
 named_key n = (n.obj, n.id)
@@ -67,3 +70,10 @@ pub record AreTables (A : List Operation) (t : Tables) : Type 0 where
   pub hanging_is : map named_of t.hanging.items ≡ sorted_by named_cmp (references (hanging A))
   pub ascends : ascending A ≡ A
   pub distinct : HaveDistinctPreds A
+
+abbrev pub counters_in : List Naming → List ℕ
+counters_in ns = map (λ n. n.id.counter) ns
+
+pub record AreCounters (t : Tables) (cs : List ℕ) : Type 0 where
+  pub ascend : IsSorted nat_cmp cs
+  pub all : IsPermutation (counters_in t.named.items ++ counters_in t.hanging.items) cs

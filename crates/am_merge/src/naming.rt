@@ -1,14 +1,14 @@
 //! What added operations name, in tables that are searched by it.
 ghost use Rattle.std.specs.Prelude.{◌≡◌, ◌≤◌, ◌∷◌, ◌++◌, [], List, filter, length, map, reverse, slice_range, IfOk, OnOk};
-ghost use Rattle.std.specs.Ordering.{is_le, is_lt};
-ghost use Rattle.am_types.specs.Order.{sorted_by};
+ghost use Rattle.std.specs.Ordering.{is_le, is_lt, ordering_then};
+ghost use Rattle.am_types.specs.Order.{bytes_cmp, object_cmp, sorted_by};
 ghost use Rattle.am_types.specs.Views.{id_of, object_of};
 ghost use Rattle.am_places.specs.Numbered.{operation_of};
 ghost use Rattle.am_merge.specs.Naming.{Named, is_named, key_cmp, named_cmp, named_key, named_of, naming_each, predecessors, reference, references};
 ghost use Rattle.am_merge.specs.Walk.{gives_value, hanging, inserts};
 
 use am_places::Numbered;
-use am_types::{IdRef, Key, ObjRef, compare_ids, compare_objects};
+use am_types::{IdRef, Key, ObjRef, compare_objects};
 use std::alloc::{AllocError, Global};
 use std::cmp::Ordering;
 
@@ -131,11 +131,26 @@ pub fn references<'a>(
     Ok(all)
 }
 
-// By object, then by the id that is named.
+// By the actor of the id, then by object.
+fn compare_actors(n: &Naming<'_>, obj: ObjRef<'_>, id: IdRef<'_>) -> Ordering
+    ensures { result ≡ ordering_then (bytes_cmp (named_of n.now).id.actor (id_of id.entry).actor) (object_cmp (named_of n.now).obj (object_of obj.entry)) }
+{
+    match n.id.actor.cmp(id.actor) {
+        Ordering::Less => Ordering::Less,
+        Ordering::Equal => compare_objects(n.obj, obj),
+        Ordering::Greater => Ordering::Greater,
+    }
+}
+
+// By the id that is named, then by object. Counters tell most.
 fn compare_named(n: &Naming<'_>, obj: ObjRef<'_>, id: IdRef<'_>) -> Ordering
     ensures { result ≡ key_cmp (named_key (named_of n.now)) (object_of obj.entry, id_of id.entry) }
 {
-    compare_objects(n.obj, obj).then(compare_ids(n.id, id))
+    match n.id.counter.cmp(&id.counter) {
+        Ordering::Less => Ordering::Less,
+        Ordering::Equal => compare_actors(n, obj, id),
+        Ordering::Greater => Ordering::Greater,
+    }
 }
 
 /// Sorts a table by what is named. What names the same stays in order.
@@ -150,7 +165,7 @@ pub fn sort_namings(all: &mut Vec<Naming<'_>>) -> Result<(), AllocError>
     Ok(())
 }
 
-// What names a lesser id, or an object before this one.
+// What names a lesser id, or this one in an object before.
 fn names_less(n: &Naming<'_>, obj: ObjRef<'_>, id: IdRef<'_>) -> bool
     ensures { result ≡ is_lt (key_cmp (named_key (named_of n.now)) (object_of obj.entry, id_of id.entry)) }
 {

@@ -1,5 +1,7 @@
 //! Where rows and new operations go in the walk over rows.
 ghost use Rattle.std.specs.Prelude.{◌≡◌};
+ghost use Rattle.std.specs.Ordering.{ordering_then};
+ghost use Rattle.am_types.specs.Order.{bytes_cmp};
 ghost use Rattle.am_types.specs.Views.{id_of, key_of};
 ghost use Rattle.am_places.specs.Numbered.{operation_of};
 ghost use Rattle.am_merge.specs.Spots.{spot_in};
@@ -72,23 +74,44 @@ fn falling<'a>(spot: &SpotRef<'a>) -> IdRef<'a>
 fn compare_turns(a: &SpotRef<'_>, b: &SpotRef<'_>) -> Ordering
     ensures { result ≡ id_turn_cmp (spot_in a.now) (spot_in b.now) }
 {
-    compare_ids(rising(a), rising(b)).then(compare_ids(falling(b), falling(a)))
+    match compare_ids(rising(a), rising(b)) {
+        Ordering::Less => Ordering::Less,
+        Ordering::Equal => compare_ids(falling(b), falling(a)),
+        Ordering::Greater => Ordering::Greater,
+    }
+}
+
+// Within one lane.
+fn compare_names(a: &SpotRef<'_>, b: &SpotRef<'_>) -> Ordering
+    ensures { result ≡ ordering_then (bytes_cmp (name_in (key_of a.now.key)) (name_in (key_of b.now.key))) (id_turn_cmp (spot_in a.now) (spot_in b.now)) }
+{
+    match name(a).cmp(name(b)) {
+        Ordering::Less => Ordering::Less,
+        Ordering::Equal => compare_turns(a, b),
+        Ordering::Greater => Ordering::Greater,
+    }
 }
 
 // Within one object.
 fn compare_lanes(a: &SpotRef<'_>, b: &SpotRef<'_>) -> Ordering
     ensures { result ≡ lane_cmp (spot_in a.now) (spot_in b.now) }
 {
-    lane(a)
-        .cmp(&lane(b))
-        .then(name(a).cmp(name(b)).then(compare_turns(a, b)))
+    match lane(a).cmp(&lane(b)) {
+        Ordering::Less => Ordering::Less,
+        Ordering::Equal => compare_names(a, b),
+        Ordering::Greater => Ordering::Greater,
+    }
 }
 
 /// The order of the walk.
 pub fn compare_spots(a: &SpotRef<'_>, b: &SpotRef<'_>) -> Ordering
     ensures { result ≡ spot_cmp (spot_in a.now) (spot_in b.now) }
 {
-    compare_objects(a.obj, b.obj).then(compare_lanes(a, b))
+    match compare_objects(a.obj, b.obj) {
+        Ordering::Less => Ordering::Less,
+        Ordering::Equal => compare_lanes(a, b),
+        Ordering::Greater => Ordering::Greater,
+    }
 }
 
 /// The spot of an operation.

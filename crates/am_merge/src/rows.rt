@@ -1,0 +1,95 @@
+//! The rows of a larger set's document.
+ghost use Rattle.std.specs.Prelude.{◌≡◌, ◌≤◌, ◌^◌, ◌++◌, [], List, length, map, IfOk};
+ghost use Rattle.am_types.specs.Members.{Member};
+ghost use Rattle.am_places.specs.Numbered.{operation_of};
+ghost use Rattle.am_colmeta.specs.Metadata.{metadata, listing, body};
+ghost use Rattle.am_doccols.specs.Columns.{written_rows};
+ghost use Rattle.am_merge.specs.Growing.{Grows, HasTables, rows_in};
+ghost use Rattle.am_merge.specs.Naming.{AreTables};
+ghost use Rattle.am_merge.specs.Stops.{done_in, waiting_of};
+ghost use Rattle.am_merge.specs.Walk.{beginning, walked};
+ghost use Rattle.am_merge.specs.declared.naming.Naming.{Naming};
+
+use crate::added::{added_operations, backwards, beginning};
+use crate::carry::carry;
+use crate::naming::{Tables, predecessors, references, sort_namings};
+use crate::stops::Walk;
+use crate::walk::walk_rows;
+use am_doccols::RowCursor;
+use am_places::Numbered;
+use am_types::{ActorId, Bytes, Change};
+use std::alloc::{AllocError, Global};
+
+// The most rows of a document.
+const MOST: u64 = 4194304;
+
+// What the operations name, in order.
+fn tables_of<'a>(alloc: Global, operations: &[Numbered<'a>]) -> Result<Tables<'a>, AllocError>
+    ensures { IfOk result (HasTables (map operation_of operations.now)) }
+{
+    let mut named = predecessors(alloc, operations)?;
+    sort_namings(&mut named)?;
+    let back = backwards(alloc, operations)?;
+    let mut hanging = references(alloc, operations, back.as_slice())?;
+    sort_namings(&mut hanging)?;
+    Ok(Tables { named, hanging })
+}
+
+// The walk before the first row.
+fn start<'a>(alloc: Global, operations: &[Numbered<'a>]) -> Result<Walk<'a>, AllocError>
+    ensures few { IfOk result (λ w. w.skipped ≡ 0) }
+    ensures left { IfOk result (λ w. w.left ≡ 4194304) }
+    ensures waiting { IfOk result (λ w. waiting_of w ≡ beginning (map operation_of operations.now)) }
+    ensures none { IfOk result (λ w. (named : List Naming) → done_in named w ≡ []) }
+{
+    let waiting = beginning(alloc, operations)?;
+    Ok(Walk {
+        stops: Vec::new(alloc),
+        skipped: 0,
+        waiting,
+        left: MOST,
+    })
+}
+
+// The walk over the rows.
+fn walk_all<'a>(
+    alloc: Global,
+    operations: &[Numbered<'a>],
+    tables: &Tables<'a>,
+    rows: &RowCursor<'_>,
+) -> Result<Walk<'a>, AllocError>
+    requires { length rows.now ≤ 2 ^ 22 }
+    ensures { IfOk result (λ w. AreTables (map operation_of operations.now) tables.now
+        → done_in tables.now.named.items w ≡ walked (map operation_of operations.now) rows.now 4194304 (beginning (map operation_of operations.now))) }
+{
+    let mut walk = start(alloc, operations)?;
+    walk_rows(alloc, &mut walk, tables, rows)?;
+    Ok(walk)
+}
+
+/// The metadata and the body of the columns of the larger set's rows, from the rows of the smaller one and the added changes.
+/// Places name these actors. It takes time in n log m + m log m, of n old rows and m added operations and what they name.
+pub(crate) fn rows_text(
+    alloc: Global,
+    actors: &[ActorId],
+    rows: RowCursor<'_>,
+    added: &[&Change],
+) -> Result<(Bytes, Bytes), AllocError>
+    requires { (C : List Member) × (E : List Member) × Grows C E actors.now rows (map (λ c. c.now) added.now) }
+    ensures metadata { IfOk result (λ text. (C E : List Member) → Grows C E actors.now rows.entry (map (λ c. c.now) added.now) → text.0 ≡ metadata (listing (written_rows actors.now (rows_in (C ++ E))))) }
+    ensures body { IfOk result (λ text. (C E : List Member) → Grows C E actors.now rows.entry (map (λ c. c.now) added.now) → text.1 ≡ body (written_rows actors.now (rows_in (C ++ E)))) }
+{
+    let operations = added_operations(alloc, added)?;
+    let tables = tables_of(alloc, operations.as_slice())?;
+    let walk = walk_all(alloc, operations.as_slice(), &tables, &rows)?;
+    let writer = carry(
+        alloc,
+        actors,
+        &rows,
+        tables.named.as_slice(),
+        walk.stops.as_slice(),
+        walk.skipped,
+    )?;
+    let text = writer.finish()?;
+    Ok(text)
+}
