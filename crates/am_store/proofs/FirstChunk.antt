@@ -30,9 +30,6 @@ begins kind P contents rest is p = record { contents = contents; rest = rest; is
 
 -- the first chunk is of this kind
 module _ (k kind : ℕ) (bytes contents rest : List ℕ) (e : k ≡ kind) (b : bytes ≡ chunk_bytes (chunk_of k contents) ++ rest) where
-  pub is_kind : IsChunk (chunk_of k contents) → IsChunk (chunk_of kind contents)
-  is_kind is = subst (λ n. IsChunk (chunk_of n contents)) e is
-
   pub begins_kind : (P : List ℕ → Type 0) → IsChunk (chunk_of k contents) → P contents → Begins kind P bytes
   begins_kind P is p = subst (λ n. Begins n P bytes) e (record { contents = contents; rest = rest; is_chunk = is; bytes_are = b; has = p })
 

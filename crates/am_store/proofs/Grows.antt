@@ -1,20 +1,26 @@
 -- A closed set with one more change.
 use Rattle.std.proofs.Common.{ℕ, ◌≡◌, List, [], ◌∷◌, ◌++◌, length, take, false, cond, Result, Ok, Err, sym, ap, ◌∙◌, subst}
 use Rattle.std.specs.Prelude.{OnOk, OnErr}
-use Rattle.std.proofs.lemmas.List.{map-append, append_assoc, length-map, take_at}
+use Rattle.std.proofs.lemmas.List.{map-append, append-nil, append_assoc, length-map, take_at}
+use Rattle.std.proofs.lemmas.List.Elements.{All-append}
 use Rattle.am_types.specs.declared.Hash.{Hash}
 use Rattle.am_types.specs.declared.Change.{Change}
 use Rattle.am_types.specs.Members.{Member, changes}
 use Rattle.am_types.specs.ValidSets.{Valid, Joins}
+use Rattle.am_types.specs.Documents.{table}
+use Rattle.am_change.specs.Judgement.{HasOwnHashes}
 use Rattle.am_graph.specs.declared.Node.{Node}
 use Rattle.am_graph.specs.Graphs.{node_of, nodes, is_held}
 use Rattle.am_graph.proofs.Held.{is_held-nodes}
 use Rattle.am_fits.specs.declared.Totals.{Totals}
 use Rattle.am_fits.specs.Indexes.{Indexed, AreOf, MayAdmit, index_of}
+use Rattle.am_fits.specs.Sums.{totals_of}
 use Rattle.am_delivery.specs.Waiting.{member_of, members_of}
 use Rattle.am_delivery.specs.Laws.{JoinedIsValid}
 use Rattle.am_delivery.proofs.Steady.{valid_push}
-use Rattle.am_store.specs.Grown.{AreGrown, MayGrow}
+use Rattle.am_doc.specs.Contents.{body}
+use Rattle.am_store.specs.Contents.{IsContents, IsLarger}
+use Rattle.am_store.specs.Grown.{AreGrown, MayGrow, IsOwn}
 
 pub may_admit : (g : List (Hash × Node)) (ix : Indexed) (m : Member) → MayGrow g ix m → MayAdmit ix m.change
 may_admit g ix m may = record {
@@ -71,3 +77,36 @@ two_parts old fresh ix e = e ∙ ap (λ C. index_of (changes C)) (both old fresh
 pub by_result : {T E A B C D F P : Type 0} (r : Result T E) → OnOk r A → OnOk r B → OnErr r C → OnErr r D → OnErr r F → (A → B → P) → (C → D → F → P) → P
 by_result (Ok x) a b c d e f g = f a b
 by_result (Err x) a b c d e f g = g c d e
+
+-- ---- the set comes to rest
+
+pub count_at_rest : (old : List (Hash × Change)) (t : Totals) → t ≡ totals_of (changes (members_of old)) → t.changes ≡ length old
+count_at_rest old t e = ap (λ (u : Totals). u.changes) e ∙ length-map (members_of old) (λ (m : Member). m.change) ∙ length-map old member_of
+
+-- nothing has joined yet
+pub begun : (old fresh : List (Hash × Change)) (g : List (Hash × Node)) (ix : Indexed) (t : Totals) → fresh ≡ [] → AreOf (members_of old) g ix → Valid (members_of old) → t ≡ ix.totals → AreGrown old fresh g ix t
+begun old fresh g ix t none of v e =
+    let all : old ≡ old ++ fresh = sym (append-nil old) ∙ ap (λ l. old ++ l) (sym none) in
+    record {
+      of_set = subst (λ es. AreOf (members_of es) g ix) all of;
+      valid = subst (λ es. Valid (members_of es)) all v;
+      totals = e ∙ ap (λ (x : Indexed). x.totals) of.index;
+    }
+
+-- E has joined
+module _ (old fresh : List (Hash × Change)) (g : List (Hash × Node)) (ix : Indexed) (t : Totals) (are : AreGrown old fresh g ix t) (bytes : List ℕ) (is : IsContents (members_of old) bytes)
+    (E : List Member) (e : members_of (old ++ fresh) ≡ members_of old ++ E) (cs : List Change) (same : changes E ≡ cs) where
+  pub is_larger : IsLarger bytes cs g (members_of old) E
+  is_larger = record {
+    before = is;
+    valid = subst Valid e are.valid;
+    added = same;
+    graph = are.of_set.graph ∙ ap nodes e;
+  }
+
+  pub larger_contents : HasOwnHashes E → (new : List ℕ) → new ≡ body (table (members_of old ++ E)) → IsContents (members_of (old ++ fresh)) new
+  larger_contents own new f = record {
+    valid = are.valid;
+    own_hashes = subst HasOwnHashes (sym e) (All-append IsOwn (members_of old) E is.own_hashes own);
+    bytes_are = f ∙ ap (λ C. body (table C)) (sym e);
+  }

@@ -85,10 +85,10 @@ hold_changes (m ∷ W) come = (inl (m.change, record { kind = refl; fine = (come
 
 -- ---- the laws below
 
-abbrev ContentsSpell : Type 0
+abbrev pub ContentsSpell : Type 0
 ContentsSpell = (C : List Member) → Valid C → length (body (table C)) < 2 ^ 64 → SpellsTable (body (table C)) (table C)
 
-abbrev JudgesOnce : Type 0
+abbrev pub JudgesOnce : Type 0
 JudgesOnce = (bytes : List ℕ) (x y : Result Table DocFault) → Judges bytes x → Judges bytes y → x ≡ y
 
 compressed_is_no_table : (t : Table) → Ok t ≡ Err doc_fault.CompressedColumn → ⊥
@@ -101,7 +101,7 @@ ordered C = IsPermutation-sorted_by (canonical_cmp C) C
 pub own_ordered : (C : List Member) → HasOwnHashes C → with_hashes (changes (order C)) ≡ order C
 own_ordered C own = own_again (order C) (recursion_from_All IsOwn (order C) (All-permutation IsOwn C (order C) (ordered C) own))
 
-heads_stated : (C : List Member) → heads (order C) ≡ heads C → heads (order C) ≡ (table C).heads
+pub heads_stated : (C : List Member) → heads (order C) ≡ heads C → heads (order C) ≡ (table C).heads
 unfolding table
 heads_stated C e = e
 

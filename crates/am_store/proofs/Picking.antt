@@ -5,7 +5,7 @@ use Rattle.std.specs.List.Sorted.{IsStrictlySortedBy}
 use Rattle.std.specs.declared.cmp.Ordering.TheVariants.{Less}
 use Rattle.std.proofs.lemmas.Bool.{both_ways}
 use Rattle.std.proofs.lemmas.List.{map-append, take_more, length-map, get_or-map}
-use Rattle.std.proofs.lemmas.List.Elements.{filter_agree, filter-append, Contains-get_or, All-map}
+use Rattle.std.proofs.lemmas.List.Elements.{filter_agree, filter-append, Contains-get_or, All-map, All-contains}
 use Rattle.std.proofs.lemmas.List.Sorted.{Contains-permutation, list_any-IsPermutation, IsPermutation-sym}
 use Rattle.std.proofs.lemmas.Map.Keys.{sorted_head, sorted_tail}
 use Rattle.std.proofs.lemmas.Option.{slice_get-map, slice_get-get_or}
@@ -40,6 +40,11 @@ change_of m = m.change
 abbrev pub found : List Member → Hash → Option Change
 found C h = option_map change_of (member C h)
 
+-- entries without their hashes
+pub bare_members : (es : List (Hash × Change)) → map (λ (e : Hash × Change). e.1) es ≡ changes (members_of es)
+bare_members [] = refl
+bare_members (e ∷ es) = ap (λ l. e.1 ∷ l) (bare_members es)
+
 -- ---- one change
 
 pub place_within : (es : List (Hash × Change)) (place : ℕ) → place < length (members_of es) → place < length es
@@ -68,10 +73,24 @@ chunk_found C h c bytes e is = told (member C h) e
     told None e = cc
     told (Some m) e = let same : m.change ≡ c = cc in ap (λ (b : List ℕ). Some b) (is ∙ ap chunk (sym same))
 
-pub fine_there : (es : List (Hash × Change)) (place : ℕ) (d : Hash × Change) → All MayCome (members_of es) → place < length es → Fine (get_or es place d).1
-fine_there es place d all l =
-    let long = length-map es member_of in
-    subst (λ (m : Member). Fine m.change) (get_or-map member_of es place d (member_of d) l) (all place (member_of d) (omega arith)).fine
+-- no chunk, where the hash isn't held
+pub none_chunk : (C : List Member) (h : Hash) → holds C h ≡ false → None ≡ chunk_in C h
+none_chunk C h f = told (member C h) refl
+  where
+    told : (o : Option Member) → member C h ≡ o → None ≡ option_map (λ (m : Member). chunk m.change) o
+    told None e = refl
+    told (Some m) e =
+        let there = found_is (λ (n : Member). same hash_cmp h n.hash) C m e in
+        absurd (both_ways (holds C h) f (subst (λ g. holds C g ≡ true) (sym (same_hash-true h m.hash there.1)) (holds_it C m there.0)))
+
+pub fine_found : (C : List Member) (h : Hash) (c : Change) → found C h ≡ Some c → All MayCome C → Fine c
+fine_found C h c e all = told (member C h) refl e
+  where
+    told : (o : Option Member) → member C h ≡ o → option_map change_of o ≡ Some c → Fine c
+    told None at e = cc
+    told (Some m) at e =
+        let is : m.change ≡ c = cc in
+        subst Fine is (All-contains MayCome C m all (found_is (λ (n : Member). same hash_cmp h n.hash) C m at).0).fine
 
 -- ---- the changes with some hashes
 
@@ -84,11 +103,6 @@ member_is C one m c = go (member C m.hash) refl
     go : (o : Option Member) → member C m.hash ≡ o → o ≡ Some m
     go None e = absurd (both_ways (p m) (any_none p C (find_none p C e) m c) (same_hash_itself m.hash))
     go (Some n) e = let f = found_is p C n e in ap Some (one n m f.0 c (sym (same_hash-true m.hash n.hash f.1)))
-
-pub more_found : (C : List Member) (hs : List Hash) (i : ℕ) (d : Hash) → i < length hs → (cs : List Change) (c : Change) → found C (get_or hs i d) ≡ Some c
-    → map (λ c. Some c) cs ≡ map (found C) (take i hs) → map (λ c. Some c) (cs ++ c ∷ []) ≡ map (found C) (take (i + 1) hs)
-more_found C hs i d l cs c e had =
-    map-append (λ c. Some c) cs (c ∷ []) ∙ (λ j. had j ++ sym e j ∷ []) ∙ sym (map-append (found C) (take i hs) (get_or hs i d ∷ [])) ∙ ap (map (found C)) (sym (take_more hs i d l))
 
 pub some_once : {X : Type 0} (xs ys : List X) → map (λ x. Some x) xs ≡ map (λ x. Some x) ys → xs ≡ ys
 some_once [] [] e = refl

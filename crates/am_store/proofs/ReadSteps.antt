@@ -16,7 +16,7 @@ use Rattle.am_store.specs.declared.fault.LoadError.{LoadError}
 use Rattle.am_store.specs.declared.fault.ReadFault.{ReadFault}
 use Rattle.am_store.specs.declared.fault.ReadFault.TheVariants as read_fault
 use Rattle.am_store.specs.Whole.{MatchLoad}
-use Rattle.am_store.specs.Files.{Holds, HasFault, IsFile, FirstBad}
+use Rattle.am_store.specs.Files.{Holds, HasFault, FirstBad}
 use Rattle.am_store.specs.Reading.{GivesPairs, Appends, ReadsOne, HasRead}
 
 abbrev Pairs : Type 0
@@ -76,15 +76,6 @@ first_bad only bytes rest pairs k fault r more bad = record {
   more = more;
   bad = bad;
   number = r.number;
-}
-
-pub all_read : (only : Bool) (bytes rest : List ℕ) (pairs : Pairs) (k : ℕ) → rest ≡ [] → HasRead only bytes rest pairs k → IsFile only bytes (changes_of pairs)
-all_read only bytes rest pairs k e r = record {
-  chunks = r.chunks;
-  lists = r.lists;
-  file = record { bytes_are = r.bytes_are ∙ ap (λ b. flat_map chunk_bytes r.chunks ++ b) e ∙ append-nil (flat_map chunk_bytes r.chunks); each = r.each };
-  hold = r.hold;
-  are = r.are;
 }
 
 pub match_weaker : (fault : ReadFault) (P Q : LoadError → Type 0) → ((e : LoadError) → P e → Q e) → MatchLoad fault P → MatchLoad fault Q

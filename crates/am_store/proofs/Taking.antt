@@ -1,25 +1,21 @@
 -- What a delivery leaves in a store.
-use Rattle.std.proofs.Common.{ℕ, ◌≡◌, ◌≤◌, ◌+◌, Option, List, [], ◌++◌, length, get_or, Contains, IsPermutation, BTreeMap, refl, sym, ap, ◌∙◌, subst, inl, inr, arith}
-use Rattle.std.proofs.lemmas.List.{map-append, append-nil, length-append, length-map}
-use Rattle.std.proofs.lemmas.List.Elements.{All-map, All-contains, Contains-get_or, Contains-append_left, Contains-append_right, Contains-append_cases}
+use Rattle.std.proofs.Common.{ℕ, ◌≡◌, Option, List, [], ◌++◌, length, get_or, Contains, IsPermutation, refl, sym, ap, ◌∙◌, subst, inl, inr, arith}
+use Rattle.std.proofs.lemmas.List.{append-nil, length-append, length-map}
+use Rattle.std.proofs.lemmas.List.Elements.{All-append, All-map, All-contains, Contains-get_or, Contains-append_left, Contains-append_right, Contains-append_cases}
 use Rattle.std.proofs.lemmas.List.Sorted.{IsPermutation-refl, IsPermutation-sym, Contains-permutation}
 use Rattle.am_types.specs.declared.Hash.{Hash}
 use Rattle.am_types.specs.declared.Change.{Change}
 use Rattle.am_types.specs.declared.Rejected.{Rejected}
 use Rattle.am_types.specs.Members.{Member}
 use Rattle.am_types.specs.Deliver.{Sets, AreStored, deliver}
-use Rattle.am_graph.specs.declared.Node.{Node}
-use Rattle.am_fits.specs.Indexes.{Indexed, AreOf}
-use Rattle.am_change.specs.Contents.{hash}
+use Rattle.am_types.proofs.Lists.{all_of}
 use Rattle.am_change.specs.Hashes.{with_hash, with_hashes}
 use Rattle.am_change.specs.Judgement.{HasOwnHashes}
-use Rattle.am_delivery.specs.Laws.{KeepsWhatCame, JoinsNoMore}
-use Rattle.am_delivery.specs.Waiting.{member_of, members_of, waiting_of, IsTracked}
+use Rattle.am_delivery.specs.Laws.{KeepsWhatCame}
+use Rattle.am_delivery.specs.Waiting.{member_of, members_of, IsTracked}
 use Rattle.am_delivery.specs.declared.Pending.{Pending}
-use Rattle.am_store.specs.Kept.{IsKept, Takes}
-
-abbrev IsOwn : Member → Type 0
-IsOwn m = m.hash.0 ≡ hash m.change
+use Rattle.am_store.specs.Grown.{Grown, IsOwn}
+use Rattle.am_store.specs.Kept.{Kept, IsKept, Takes}
 
 pub own_of : (cs : List Change) → HasOwnHashes (with_hashes cs)
 own_of cs = All-map IsOwn with_hash cs (λ k d l. refl)
@@ -34,74 +30,68 @@ own_left C W L D V keeps own came e p k d l =
     ] in
     elim (Contains-append_cases (C ++ W) L m (keeps C W L m there)) [ inl a ↦ All-contains IsOwn (C ++ W) m own a | inr b ↦ All-contains IsOwn L m came b ]
 
--- nothing has joined yet, and the waiting changes are copied
-module _ (old : List (Hash × Change)) (w v : BTreeMap Hash Change) (copied : v.entries ≡ w.entries) where
-  pub same_closed : members_of (old ++ []) ≡ members_of old
-  same_closed = ap members_of (append-nil old)
+pub closed_own : (k : Kept) → IsKept k → HasOwnHashes k.closed
+closed_own k is = all_of IsOwn k.closed (λ m c. All-contains IsOwn (k.closed ++ k.waiting) m is.own_hashes (Contains-append_left k.closed k.waiting m c))
 
-  same_waiting : waiting_of v ≡ waiting_of w
-  same_waiting = ap members_of copied
+-- what waits and what comes stand beside their own hashes
+pub both_own : (k : Kept) → IsKept k → (L : List Member) → HasOwnHashes L → HasOwnHashes (k.waiting ++ L)
+both_own k is L came = All-append IsOwn k.waiting L (all_of IsOwn k.waiting (λ m c. All-contains IsOwn (k.closed ++ k.waiting) m is.own_hashes (Contains-append_right k.closed k.waiting m c))) came
 
-  pub begins_stored : AreStored (members_of old) (waiting_of w) → AreStored (members_of (old ++ [])) (waiting_of v)
-  begins_stored s = subst (λ C. AreStored C (waiting_of v)) (sym same_closed) (subst (AreStored (members_of old)) (sym same_waiting) s)
+-- ---- nothing has joined yet
 
-  pub begins_tracked : (pending : Option Pending) → IsTracked (members_of old) (waiting_of w) pending → IsTracked (members_of (old ++ [])) (waiting_of v) pending
-  begins_tracked pending t = subst (λ C. IsTracked C (waiting_of v) pending) (sym same_closed) (subst (λ W. IsTracked (members_of old) W pending) (sym same_waiting) t)
+abbrev pub begins : List (Hash × Change) → Grown
+begins es = record { old = es; fresh = [] }
 
-  -- C is closed now, of which `joined` have joined, and u wait
-  module _ (C : List Member) (joined : List (Hash × Change)) (u : BTreeMap Hash Change) (L : List Member)
-      (closed : C ≡ (deliver (members_of (old ++ [])) (waiting_of v) L).closed)
-      (waiting : IsPermutation (deliver (members_of (old ++ [])) (waiting_of v) L).waiting (waiting_of u))
-      (stored : AreStored C (waiting_of u))
-      (more : C ≡ members_of (old ++ []) ++ members_of joined) where
-    abbrev outcome : Sets
-    outcome = deliver (members_of old) (waiting_of w) L
+module _ (es : List (Hash × Change)) (g : Grown) (begun : g ≡ begins es) where
+  pub at_start : members_of (g.old ++ g.fresh) ≡ members_of es
+  at_start = ap (λ (h : Grown). members_of (h.old ++ h.fresh)) begun ∙ ap members_of (append-nil es)
 
-    begun : deliver (members_of (old ++ [])) (waiting_of v) L ≡ outcome
-    begun = λ i. deliver (same_closed i) (same_waiting i) L
+  pub rests : members_of (g.old ++ g.fresh) ≡ members_of g.old
+  rests = at_start ∙ sym (ap (λ (h : Grown). members_of h.old) begun)
 
-    whole : C ≡ members_of (old ++ joined)
-    whole = more ∙ ap (λ l. l ++ members_of joined) same_closed ∙ sym (map-append member_of old joined)
+  pub starts_stored : (W : List Member) → AreStored (members_of es) W → AreStored (members_of (g.old ++ g.fresh)) W
+  starts_stored W s = subst (λ C. AreStored C W) (sym at_start) s
 
-    new_closed : members_of (old ++ joined) ≡ outcome.closed
-    new_closed = sym whole ∙ closed ∙ ap (λ (s : Sets). s.closed) begun
+  pub starts_tracked : (W : List Member) (pending : Option Pending) → IsTracked (members_of es) W pending → IsTracked (members_of (g.old ++ g.fresh)) W pending
+  starts_tracked W pending t = subst (λ C. IsTracked C W pending) (sym at_start) t
 
-    new_waiting : IsPermutation outcome.waiting (waiting_of u)
-    new_waiting = subst (λ (s : Sets). IsPermutation s.waiting (waiting_of u)) begun waiting
+-- ---- what is left
 
-    pub kept_after : KeepsWhatCame → HasOwnHashes (members_of old ++ waiting_of w) → HasOwnHashes L → IsKept (record { closed = members_of (old ++ joined); waiting = waiting_of u })
-    kept_after keeps own came = record {
-      stored = subst (λ C. AreStored C (waiting_of u)) whole stored;
-      own_hashes = own_left (members_of old) (waiting_of w) L (members_of (old ++ joined)) (waiting_of u) keeps own came new_closed new_waiting;
-    }
+-- C is closed now, to which `joined` have come, and is at rest as D; V wait
+module _ (es : List (Hash × Change)) (W L B C D V : List Member) (joined : List (Hash × Change))
+    (start : B ≡ members_of es)
+    (closed : C ≡ (deliver B W L).closed)
+    (waiting : IsPermutation (deliver B W L).waiting V)
+    (stored : AreStored C V)
+    (more : C ≡ B ++ members_of joined)
+    (rest : C ≡ D) where
+  same_outcome : deliver B W L ≡ deliver (members_of es) W L
+  same_outcome = ap (λ A. deliver A W L) start
 
-    pub tracked_after : (pending : Option Pending) → IsTracked C (waiting_of u) pending → IsTracked (members_of (old ++ joined)) (waiting_of u) pending
-    tracked_after pending t = subst (λ C. IsTracked C (waiting_of u) pending) whole t
+  new_closed : D ≡ (deliver (members_of es) W L).closed
+  new_closed = sym rest ∙ closed ∙ ap (λ (s : Sets). s.closed) same_outcome
 
-    -- no more have joined than waited and came
-    pub few_joined : JoinsNoMore → length joined ≤ length w.entries + length L
-    few_joined few =
-        let least = few (members_of old) (waiting_of w) L in
-        let same_length = ap length new_closed in
-        let a = length-map old member_of in
-        let b = length-map (old ++ joined) member_of in
-        let c = length-append old joined in
-        let d = length-map w.entries member_of in
-        omega arith
+  new_waiting : IsPermutation (deliver (members_of es) W L).waiting V
+  new_waiting = subst (λ (s : Sets). IsPermutation s.waiting V) same_outcome waiting
 
-    pub of_after : (g : List (Hash × Node)) (ix : Indexed) → AreOf C g ix → AreOf (members_of (old ++ joined)) g ix
-    of_after g ix a = subst (λ C. AreOf C g ix) whole a
+  pub kept_after : KeepsWhatCame → HasOwnHashes (members_of es ++ W) → HasOwnHashes L → IsKept (record { closed = D; waiting = V })
+  kept_after keeps own came = record {
+    stored = subst (λ A. AreStored A V) rest stored;
+    own_hashes = own_left (members_of es) W L D V keeps own came new_closed new_waiting;
+  }
 
-    pub takes : (R : List Rejected) (n k : ℕ) → R ≡ (deliver (members_of (old ++ [])) (waiting_of v) L).rejected → n ≡ length joined → k ≡ length (waiting_of u)
-        → Takes (record { closed = members_of old; waiting = waiting_of w }) L (record { added = n; waiting = k; rejected = R }) (record { closed = members_of (old ++ joined); waiting = waiting_of u })
-    takes R n k rejected count wait = record {
-      closed = subst (IsPermutation outcome.closed) (sym new_closed) (IsPermutation-refl outcome.closed);
-      waiting = new_waiting;
-      rejected = rejected ∙ ap (λ (s : Sets). s.rejected) begun;
-      added =
-          let a = length-map old member_of in
-          let b = length-map (old ++ joined) member_of in
-          let c = length-append old joined in
-          omega arith;
-      wait = wait;
-    }
+  pub takes : (R : List Rejected) (n k : ℕ) → R ≡ (deliver B W L).rejected → n ≡ length joined → k ≡ length V
+      → Takes (record { closed = members_of es; waiting = W }) L (record { added = n; waiting = k; rejected = R }) (record { closed = D; waiting = V })
+  takes R n k rejected count wait =
+      let all : D ≡ members_of es ++ members_of joined = sym rest ∙ more ∙ ap (λ A. A ++ members_of joined) start in
+      record {
+        closed = subst (IsPermutation (deliver (members_of es) W L).closed) (sym new_closed) (IsPermutation-refl (deliver (members_of es) W L).closed);
+        waiting = new_waiting;
+        rejected = rejected ∙ ap (λ (s : Sets). s.rejected) same_outcome;
+        added =
+            let a = length-map joined member_of in
+            let b = length-append (members_of es) (members_of joined) in
+            let c = ap length all in
+            omega arith;
+        wait = wait;
+      }

@@ -1,12 +1,14 @@
 pub mod Adopting
 pub mod AnyOrder
+pub mod Contents
 pub mod Files
 pub mod Grown
+pub mod Growing
 pub mod History
 pub mod Inversion
 pub mod Kept
 pub mod Laws
-pub mod Places
+pub mod Listed
 pub mod Reading
 pub mod Saved
 pub mod Whole

@@ -1,10 +1,13 @@
 //! The first chunk of a file.
-ghost use Rattle.std.specs.Prelude.{◌≡◌, ◌<◌, Bool, false, List, ℕ, length, IfOk, OnOk, IfErr};
+ghost use Rattle.std.specs.Prelude.{◌≡◌, ◌<◌, Bool, false, List, ℕ, length, Ok, Err, IfOk, OnOk, IfErr};
 ghost use Rattle.am_types.specs.declared.Change.{Change as AChange};
+ghost use Rattle.am_types.specs.declared.Table.{Table as ATable};
 ghost use Rattle.am_frame.specs.Frames.{IsChunk, chunk_of};
 ghost use Rattle.am_frame.specs.Faults as frame;
 ghost use Rattle.am_change.specs.Contents.{contents as contents_of};
 ghost use Rattle.am_change.specs.Hashes.{own_hash};
+ghost use Rattle.am_doc.specs.Spelling.{Judges};
+ghost use Rattle.am_rebuild.specs.Documents.{Rebuilds};
 ghost use Rattle.am_store.specs.Files.{HasFault};
 ghost use Rattle.am_store.specs.Reading.{MatchBad, IsWrongWith, GivesPairs, Appends, ReadsOne};
 
@@ -56,7 +59,7 @@ fn push_change(
     alloc: Global,
     hash: Hash,
     contents: &[u8],
-    changes: &mut FileChanges,
+    changes: &mut FileChanges<'_>,
 ) -> Result<(), ChunkFault>
     requires is_chunk { IsChunk (chunk_of 1 contents.now) }
     requires own { (c : AChange) → contents.now ≡ contents_of c → hash ≡ own_hash c }
@@ -76,11 +79,23 @@ fn push_change(
     Ok(())
 }
 
+/// Why a document isn't read whose changes aren't rebuilt for this.
+fn not_rebuilt(fault: RebuildFault) -> ChunkFault
+    ensures { (contents : List ℕ) (t : ATable) → IsChunk (chunk_of 0 contents) → Judges contents (Ok t) → Rebuilds t (Err fault) → MatchBad result (IsWrongWith false (chunk_of 0 contents)) }
+{
+    one_judgement();
+    match fault {
+        RebuildFault::NoHistory => ChunkFault::Bad(LoadFault::NoHistory),
+        RebuildFault::HeadsMismatch(hash) => ChunkFault::Bad(LoadFault::HeadsMismatch(hash)),
+        RebuildFault::NoMemory => ChunkFault::NoMemory,
+    }
+}
+
 /// Appends the changes of a document chunk with these contents.
-fn push_document(
+fn push_document<'a>(
     alloc: Global,
-    contents: &[u8],
-    changes: &mut FileChanges,
+    contents: &'a [u8],
+    changes: &mut FileChanges<'a>,
 ) -> Result<(), ChunkFault>
     requires { IsChunk (chunk_of 0 contents.now) }
     ensures ok { OnOk result (Appends (GivesPairs false (chunk_of 0 contents.now)) changes.old changes.new) }
@@ -92,15 +107,11 @@ fn push_document(
         Err(DocFault::CompressedColumn) => return Err(ChunkFault::Bad(LoadFault::CompressedColumn)),
         Err(DocFault::BadDocument) => return Err(ChunkFault::Bad(LoadFault::BadDocument)),
     };
-    let document = match rebuild_whole(alloc, doc) {
+    let document = match rebuild_whole(alloc, doc.again()) {
         Ok(document) => document,
-        Err(RebuildFault::NoHistory) => return Err(ChunkFault::Bad(LoadFault::NoHistory)),
-        Err(RebuildFault::HeadsMismatch(hash)) => return Err(ChunkFault::Bad(
-            LoadFault::HeadsMismatch(hash),
-        )),
-        Err(RebuildFault::NoMemory) => return Err(ChunkFault::NoMemory),
+        Err(fault) => return Err(not_rebuilt(fault)),
     };
-    changes.append(document)?;
+    changes.append(document, doc)?;
     Ok(())
 }
 
@@ -109,7 +120,7 @@ pub fn read_chunk<'a>(
     alloc: Global,
     bytes: &'a [u8],
     only_changes: bool,
-    changes: &mut FileChanges,
+    changes: &mut FileChanges<'a>,
 ) -> Result<&'a [u8], ChunkFault>
     ensures ok { IfOk result (λ rest. ReadsOne bytes.now rest.now (λ chunk. Appends (GivesPairs only_changes chunk) changes.old changes.new)) }
     ensures shorter { IfOk result (λ rest. length rest.now < length bytes.now) }

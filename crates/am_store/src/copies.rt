@@ -19,18 +19,3 @@ pub fn map_copied(
     }
     Ok(twin)
 }
-
-/// An equal list.
-pub fn list_copied(
-    alloc: Global,
-    changes: &[(Hash, Change)],
-) -> Result<Vec<(Hash, Change)>, AllocError>
-    ensures { IfOk result (λ twin. twin.items ≡ changes.now) }
-{
-    let mut twin = Vec::new(alloc);
-    for entry in changes {
-        let change = entry.1.copy(alloc)?;
-        twin.push((entry.0, change))?;
-    }
-    Ok(twin)
-}

@@ -23,7 +23,11 @@ fn refused(chunk: u64, fault: ChunkFault) -> ReadFault
 }
 
 /// The changes of a file. All chunks share one list.
-pub fn changes_in(alloc: Global, bytes: &[u8], only_changes: bool) -> Result<FileChanges, ReadFault>
+pub fn changes_in<'a>(
+    alloc: Global,
+    bytes: &'a [u8],
+    only_changes: bool,
+) -> Result<FileChanges<'a>, ReadFault>
     ensures ok { IfOk result (λ changes. IsFile only_changes bytes.now (changes_of changes)) }
     ensures own_hashes { IfOk result (λ changes. AreOwn changes) }
     ensures may_come { IfOk result (λ changes. All MayCome (members_of changes)) }

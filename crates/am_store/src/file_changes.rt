@@ -1,9 +1,13 @@
 //! The changes of a file, as far as it is read.
 ghost use Rattle.std.specs.Prelude.{◌≡◌, ◌++◌, ◌∷◌, [], OnOk, vec_items};
+ghost use Rattle.am_types.specs.Members.{changes};
+ghost use Rattle.am_types.specs.Operations.{all_operations};
+ghost use Rattle.am_types.specs.Rows.{rows};
 ghost use Rattle.am_types.specs.ValidSets.{Valid};
 ghost use Rattle.am_fits.specs.Indexes.{AreOf};
 ghost use Rattle.am_delivery.specs.Waiting.{members_of};
 
+use am_doc::DocRef;
 use am_fits::OpIndex;
 use am_graph::Graph;
 use am_rebuild::Rebuilt;
@@ -11,22 +15,26 @@ use am_types::{Change, Hash};
 use std::alloc::{AllocError, Global};
 use std::marker::Model;
 
-/// What is built of a set of changes.
+/// What is built of a set of changes, and a document of it.
 #[derive(Drop)]
-pub struct Built {
+pub struct Built<'a> {
+    /// The graph of the changes, in their order.
     pub graph: Graph,
+    /// The index of their operations.
     pub index: OpIndex,
+    /// The document that they were rebuilt from.
+    pub doc: DocRef<'a>,
 }
 
 /// The changes of the chunks that were read, each behind its hash. Contracts see the changes.
 #[derive(Drop)]
-pub struct FileChanges {
+pub struct FileChanges<'a> {
     pub(crate) entries: Vec<(Hash, Change)>,
     /// What is built of them, while they are those of one document alone.
-    pub(crate) built: Option<Built>,
+    pub(crate) built: Option<Built<'a>>,
 }
 
-impl Model for FileChanges {
+impl<'a> Model for FileChanges<'a> {
     ghost use Rattle.std.specs.Prelude.{List};
     ghost use Rattle.am_types.specs.declared.Hash.{Hash};
     ghost use Rattle.am_types.specs.declared.Change.{Change};
@@ -40,15 +48,15 @@ impl Model for FileChanges {
 }
 
 /// The changes of a document alone.
-fn entries_of(document: Rebuilt) -> Vec<(Hash, Change)>
+pub fn entries_of(document: Rebuilt) -> Vec<(Hash, Change)>
     ensures { vec_items result ≡ vec_items document.entries }
 {
     document.entries
 }
 
-impl FileChanges {
+impl<'a> FileChanges<'a> {
     /// Nothing is read yet.
-    pub fn new(alloc: Global) -> FileChanges
+    pub fn new(alloc: Global) -> FileChanges<'a>
         ensures { result ≡ [] }
     {
         FileChanges {
@@ -67,23 +75,25 @@ impl FileChanges {
     }
 
     /// The changes of a document, behind those that are there. Where they are the first, what was built of them is kept.
-    pub fn append(&mut self, document: Rebuilt) -> Result<(), AllocError>
+    pub fn append(&mut self, document: Rebuilt, doc: DocRef<'a>) -> Result<(), AllocError>
         requires of_set { AreOf (members_of (vec_items document.entries)) document.graph document.index }
         requires valid { Valid (members_of (vec_items document.entries)) }
+        requires rows { doc.rows ≡ rows (all_operations (changes (members_of (vec_items document.entries)))) }
         ensures { OnOk result (self.new ≡ self.old ++ vec_items document.entries) }
     {
         if self.entries.is_empty() {
-            self.begin(document);
+            self.begin(document, doc);
             return Ok(());
         }
         self.go_on(entries_of(document))
     }
 
     /// The changes of a document, where there are none yet.
-    fn begin(&mut self, document: Rebuilt)
+    fn begin(&mut self, document: Rebuilt, doc: DocRef<'a>)
         requires none { self.old ≡ [] }
         requires of_set { AreOf (members_of (vec_items document.entries)) document.graph document.index }
         requires valid { Valid (members_of (vec_items document.entries)) }
+        requires rows { doc.rows ≡ rows (all_operations (changes (members_of (vec_items document.entries)))) }
         ensures { self.new ≡ vec_items document.entries }
     {
         let Rebuilt {
@@ -92,7 +102,7 @@ impl FileChanges {
             index,
         } = document;
         self.entries = entries;
-        self.built = Some(Built { graph, index });
+        self.built = Some(Built { graph, index, doc });
     }
 
     /// More changes, behind those that are there.
@@ -106,7 +116,7 @@ impl FileChanges {
 
     /// The changes alone.
     pub fn into_entries(self) -> Vec<(Hash, Change)>
-        ensures { vec_items result ≡ self }
+        ensures { vec_items result ≡ self.entry }
     {
         self.entries
     }

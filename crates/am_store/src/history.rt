@@ -1,12 +1,8 @@
 //! What a store tells of each change.
-ghost use Rattle.std.specs.Prelude.{◌≡◌, All, IfOk, true, Some, map, option_map};
-ghost use Rattle.am_types.specs.Members.{member, holds};
-ghost use Rattle.am_graph.specs.Graphs.{nodes};
-ghost use Rattle.am_delivery.specs.Waiting.{members_of};
+ghost use Rattle.std.specs.Prelude.{◌≡◌, IfOk, map};
+ghost use Rattle.am_delivery.specs.Waiting.{member_of};
 ghost use Rattle.am_store.specs.History.{line_of};
 
-use crate::lists::change_at;
-use am_graph::Graph;
 use am_types::{ActorId, Change, Hash, List, Text, Twin};
 use std::alloc::{AllocError, Global};
 
@@ -46,21 +42,13 @@ fn line_of(alloc: Global, hash: &Hash, change: &Change) -> Result<HistoryLine, A
     })
 }
 
-/// The lines of the changes with these hashes, in the order of the hashes.
-pub fn lines_with(
-    alloc: Global,
-    graph: &Graph,
-    entries: &[(Hash, Change)],
-    hashes: &[Hash],
-) -> Result<List<HistoryLine>, AllocError>
-    requires of_set { graph.now ≡ nodes (members_of entries.now) }
-    requires held { All (λ h. holds (members_of entries.now) h ≡ true) hashes.now }
-    ensures { IfOk result (λ lines. map (λ l. Some l) lines ≡ map (λ h. option_map line_of (member (members_of entries.now) h)) hashes.now) }
+/// The lines of these changes.
+pub fn lines_of(alloc: Global, entries: &[(Hash, Change)]) -> Result<List<HistoryLine>, AllocError>
+    ensures { IfOk result (λ lines. lines ≡ map (λ e. line_of (member_of e)) entries.now) }
 {
     let mut lines = List::new(alloc);
-    for hash in hashes {
-        let change = change_at(graph, entries, hash);
-        let line = line_of(alloc, hash, change)?;
+    for entry in entries {
+        let line = line_of(alloc, &entry.0, &entry.1)?;
         lines.push(line)?;
     }
     Ok(lines)

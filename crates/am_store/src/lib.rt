@@ -2,10 +2,10 @@
 //! at all.
 #![tactic(auto)]
 
-mod actors;
 #[cfg(test)]
 mod adopting_tests;
 mod chunk;
+mod contents;
 mod copies;
 #[cfg(test)]
 mod damage_tests;
@@ -19,20 +19,21 @@ mod hashing;
 mod history;
 #[cfg(test)]
 mod history_tests;
-mod joined;
 mod laws;
 mod lists;
 #[cfg(test)]
 mod loading_tests;
-mod places;
+mod parts;
+mod rebuilding;
 mod report;
 mod saving;
 #[cfg(test)]
 mod saving_tests;
 mod store;
-mod table;
 #[cfg(test)]
 mod tests;
+mod unseen;
+mod waiting;
 
 pub use am_graph::ClockFault;
 pub use am_types::{Rejected, Why};

@@ -1,11 +1,12 @@
 //! Copies of changes that are picked by their hashes.
-ghost use Rattle.std.specs.Prelude.{◌≡◌, All, IfOk, List, Some, true, filter, map, option_map};
+ghost use Rattle.std.specs.Prelude.{◌≡◌, IfOk, Some, true, filter, map, option_map, vec_items};
 ghost use Rattle.std.specs.BTreeSet.{contains};
 ghost use Rattle.am_types.specs.declared.Hash.{Hash as AHash};
 ghost use Rattle.am_types.specs.Order.{hash_cmp, among};
 ghost use Rattle.am_types.specs.Members.{Member, changes, member, holds};
 ghost use Rattle.am_graph.specs.Graphs.{nodes};
 ghost use Rattle.am_delivery.specs.Waiting.{members_of};
+ghost use Rattle.am_rebuild.specs.Documents.{changes_of};
 
 use am_graph::Graph;
 use am_types::{Change, Hash, List, Twin};
@@ -24,40 +25,30 @@ pub fn change_at<'a>(graph: &Graph, entries: &'a [(Hash, Change)], hash: &Hash) 
     }
 }
 
-/// The changes with these hashes, in the order of the hashes.
-pub fn changes_with(
+/// The changes without their hashes.
+pub fn without_hashes(
     alloc: Global,
-    graph: &Graph,
-    entries: &[(Hash, Change)],
-    hashes: &[Hash],
+    entries: Vec<(Hash, Change)>,
 ) -> Result<List<Change>, AllocError>
-    requires of_set { graph.now ≡ nodes (members_of entries.now) }
-    requires held { All (λ h. holds (members_of entries.now) h ≡ true) hashes.now }
-    ensures { IfOk result (λ list. map (λ c. Some c) list ≡ map (λ h. option_map (λ m. m.change) (member (members_of entries.now) h)) hashes.now) }
+    ensures { IfOk result (λ list. list ≡ changes_of (vec_items entries)) }
 {
     let mut list = List::new(alloc);
-    for hash in hashes {
-        let change = change_at(graph, entries, hash);
-        let change = change.copy(alloc)?;
+    for (_, change) in entries {
         list.push(change)?;
     }
     Ok(list)
 }
 
-/// The same changes, lent.
-pub fn lent_with<'a>(
+/// The changes, lent.
+pub fn all_lent<'a>(
     alloc: Global,
-    graph: &Graph,
     entries: &'a [(Hash, Change)],
-    hashes: &[Hash],
 ) -> Result<Vec<&'a Change>, AllocError>
-    requires of_set { graph.now ≡ nodes (members_of entries.now) }
-    requires held { All (λ h. holds (members_of entries.now) h ≡ true) hashes.now }
-    ensures { IfOk result (λ list. map (λ c. Some c.now) list.items ≡ map (λ h. option_map (λ m. m.change) (member (members_of entries.now) h)) hashes.now) }
+    ensures { IfOk result (λ list. map (λ c. c.now) list.items ≡ changes (members_of entries.now)) }
 {
     let mut list = Vec::new(alloc);
-    for hash in hashes {
-        list.push(change_at(graph, entries, hash))?;
+    for entry in entries {
+        list.push(&entry.1)?;
     }
     Ok(list)
 }

@@ -1,4 +1,7 @@
 //! What a store tells of deliveries and of itself.
+ghost use Rattle.std.specs.Prelude.{◌≡◌};
+
+use am_fits::Totals;
 use am_types::{List, Rejected};
 
 /// What a delivery did.
@@ -25,4 +28,17 @@ pub struct Counts {
     pub links: u64,
     /// The waiting changes.
     pub waiting: u64,
+}
+
+/// The totals of a closed set, beside the number of the waiting changes.
+pub(crate) fn counted(totals: Totals, waiting: u64) -> Counts
+    ensures { result ≡ record { changes = totals.changes; operations = totals.operations; preds = totals.preds; links = totals.links; waiting = waiting } }
+{
+    Counts {
+        changes: totals.changes,
+        operations: totals.operations,
+        preds: totals.preds,
+        links: totals.links,
+        waiting,
+    }
 }

@@ -1,12 +1,14 @@
 //! A store of changes: a closed set and the changes that wait for dependencies.
-ghost use Rattle.std.specs.Prelude.{◌≡◌, ◌↔◌, [], length, List, IfOk, OnOk, OnErr, IfErr, IsTrue, All, Some, find, not, true, vec_items};
+ghost use Rattle.std.specs.Prelude.{◌≡◌, ◌↔◌, [], length, List, IfOk, OnOk, OnErr, IfErr, IfSome, IsTrue, All, Some, find, not, true, vec_items};
 ghost use Rattle.am_types.specs.declared.Change.{Change as AChange};
 ghost use Rattle.am_types.specs.Fine.{Fine};
 ghost use Rattle.am_types.specs.Order.{hash_cmp, Ascends};
 ghost use Rattle.am_types.specs.Members.{hashes, changes, holds};
 ghost use Rattle.am_types.specs.Ancestors.{ancestors};
 ghost use Rattle.am_types.specs.Canonical.{order};
+ghost use Rattle.am_types.specs.Documents.{table};
 ghost use Rattle.am_types.specs.Deliver.{MayCome};
+ghost use Rattle.am_doc.specs.Contents.{body};
 ghost use Rattle.am_graph.specs.Graphs.{nodes, MatchFault};
 ghost use Rattle.am_change.specs.Hashes.{with_hashes};
 ghost use Rattle.am_change.specs.Judgement.{HasOwnHashes};
@@ -19,40 +21,45 @@ ghost use Rattle.am_store.specs.History.{history};
 ghost use Rattle.am_store.specs.Saved.{document, saved_all, chunk_in};
 ghost use Rattle.am_store.specs.Whole.{MatchLoad};
 
-use crate::copies::{list_copied, map_copied};
+use crate::contents::{doc_of, empty_contents};
 use crate::fault::ReadFault;
 use crate::file::changes_in;
 use crate::file_changes::{Built, FileChanges};
 use crate::growing::Growing;
 use crate::hashing::hashed;
-use crate::history::{HistoryLine, lines_with};
-use crate::lists::{changes_among, changes_with};
-use crate::report::{Counts, Report};
-use crate::saving::{document_of, push_chunks};
+use crate::history::{HistoryLine, lines_of};
+use crate::lists::{all_lent, change_at, changes_among, without_hashes};
+use crate::parts::Parts;
+use crate::rebuilding::{listed, rebuilt};
+use crate::report::{Counts, Report, counted};
+use crate::saving::push_chunks;
+use crate::unseen::Unseen;
+use crate::waiting::Waiting;
 use am_change::chunk_of;
-use am_delivery::{
-    Pending, Settled, comes_back, deliver, joins_no_more, keeps_what_came, listing_is_free,
-    order_is_free,
-};
+use am_delivery::{Settled, comes_back, deliver, keeps_what_came, listing_is_free, order_is_free};
+use am_doc::DocRef;
 use am_fits::OpIndex;
+use am_frame::framed;
 use am_graph::{ClockFault, Graph};
 use am_laws::valid_sets_keep_rules;
+use am_merge::respelled;
 use am_types::{Bytes, Change, Hash, List, Twin};
 use std::alloc::{AllocError, Global};
-use std::collections::BTreeMap;
 use std::marker::Model;
 use std::mem::replace;
 
 /// A closed set of changes, and those that wait for dependencies. Contracts see the two lists of changes, each beside
-/// its hash.
+/// its hash. Of the closed set the code has the contents of its canonical document, from which its changes are rebuilt where
+/// they are asked for.
 #[derive(Drop)]
 pub struct Store {
-    closed: Vec<(Hash, Change)>,
-    waiting: BTreeMap<Hash, Change>,
-    // What the waiting changes lack. After a delivery that failed, and in a copy, it isn't known before the next one.
-    pending: Option<Pending>,
+    contents: Bytes,
     graph: Graph,
     index: OpIndex,
+    waiting: Waiting,
+    counts: Counts,
+    alloc: Global,
+    closed: Unseen,
 }
 
 impl Model for Store {
@@ -71,12 +78,18 @@ impl Store {
     pub fn new(alloc: Global) -> Result<Store, AllocError>
         ensures { IfOk result (λ store. store ≡ record { closed = []; waiting = [] }) }
     {
+        let graph = Graph::new(alloc);
+        let index = OpIndex::new(alloc);
+        let contents = empty_contents(alloc)?;
+        let counts = counted(index.totals(), 0);
         Ok(Store {
-            closed: Vec::new(alloc),
-            waiting: BTreeMap::new(alloc),
-            pending: None,
-            graph: Graph::new(alloc),
-            index: OpIndex::new(alloc),
+            contents,
+            graph,
+            index,
+            waiting: Waiting::none(alloc),
+            counts,
+            alloc,
+            closed: Unseen::none(),
         })
     }
 
@@ -113,15 +126,15 @@ impl Store {
     fn is_empty(&self) -> bool
         ensures { IsTrue result ↔ (self.now ≡ nothing) }
     {
-        self.closed.is_empty() && self.waiting.is_empty()
+        self.counts.changes == 0 && self.counts.waiting == 0
     }
 
     /// Delivers the changes of a file. Where there are no others, those of one document alone are taken over.
-    fn take_file(&mut self, alloc: Global, changes: FileChanges) -> Result<Report, AllocError>
+    fn take_file(&mut self, alloc: Global, changes: FileChanges<'_>) -> Result<Report, AllocError>
         requires may_come { All MayCome (members_of changes) }
         requires own_hashes { HasOwnHashes (members_of changes) }
-        ensures ok { IfOk result (λ report. Takes self.old (members_of changes) report self.new) }
-        ensures order { OnOk result (ComesInAnyOrder self.old (members_of changes) self.new) }
+        ensures ok { IfOk result (λ report. Takes self.old (members_of changes.entry) report self.new) }
+        ensures order { OnOk result (ComesInAnyOrder self.old (members_of changes.entry) self.new) }
         ensures err { OnErr result (self.new ≡ self.old) }
     {
         if !self.is_empty() {
@@ -129,38 +142,65 @@ impl Store {
         }
         let FileChanges { entries, built } = changes;
         match built {
-            Some(built) => Ok(self.adopt(alloc, entries, built)),
+            Some(built) => self.adopt(alloc, entries, built),
             None => self.take(alloc, entries),
         }
     }
 
     /// Takes over changes that stand beside their own hashes, with what was built of them. There are no others, so nothing is
-    /// judged again, and nothing can fail.
-    fn adopt(&mut self, alloc: Global, entries: Vec<(Hash, Change)>, built: Built) -> Report
+    /// judged again; the contents of their document are made. Without memory the store is as before.
+    fn adopt(
+        &mut self,
+        alloc: Global,
+        entries: Vec<(Hash, Change)>,
+        built: Built<'_>,
+    ) -> Result<Report, AllocError>
         requires empty { self.old ≡ nothing }
         requires built { IsBuilt (vec_items entries) built }
         requires own_hashes { HasOwnHashes (members_of (vec_items entries)) }
-        ensures ok { Takes self.old (members_of (vec_items entries)) result self.new }
-        ensures order { ComesInAnyOrder self.old (members_of (vec_items entries)) self.new }
+        ensures ok { IfOk result (λ report. Takes self.old (members_of (vec_items entries)) report self.new) }
+        ensures order { OnOk result (ComesInAnyOrder self.old (members_of (vec_items entries)) self.new) }
+        ensures err { OnErr result (self.new ≡ self.old) }
     {
         comes_back();
         listing_is_free();
         order_is_free();
         valid_sets_keep_rules();
+        let lent = all_lent(alloc, entries.as_slice())?;
+        let contents = respelled(alloc, &built.doc, lent.as_slice(), &built.graph)?;
         let report = Report {
             added: count_of(entries.as_slice()),
             waiting: 0,
             rejected: List::new(alloc),
         };
-        self.closed = entries;
-        self.pending = None;
+        self.waiting.pending = None;
+        self.counts = counted(built.index.totals(), 0);
+        self.closed = Unseen::of(entries.as_slice());
+        self.contents = contents;
         self.graph = built.graph;
         self.index = built.index;
-        report
+        Ok(report)
     }
 
-    /// Delivers changes that stand beside their own hashes. The waiting changes, graph and index grow in place, and those
-    /// that join are moved; without memory what was put in is cut off again.
+    /// The changes of the closed set, where one of these hashes is held, since then they are compared. Else nothing.
+    fn held_for(
+        &self,
+        alloc: Global,
+        changes: &[(Hash, Change)],
+    ) -> Result<Option<Vec<(Hash, Change)>>, AllocError>
+        ensures { IfOk result (λ held. IfSome held (λ entries. members_of (vec_items entries) ≡ self.now.closed)) }
+    {
+        for entry in changes {
+            if self.graph.holds(&entry.0) {
+                let entries = listed(alloc, &self.graph, self.contents.as_slice())?;
+                return Ok(Some(entries));
+            }
+        }
+        Ok(None)
+    }
+
+    /// Delivers changes that stand beside their own hashes. What the store has of the closed set is lent to the delivery, and
+    /// grows in place; without memory what was put in is cut off again.
     fn take(&mut self, alloc: Global, changes: Vec<(Hash, Change)>) -> Result<Report, AllocError>
         requires may_come { All MayCome (members_of (vec_items changes)) }
         requires own_hashes { HasOwnHashes (members_of (vec_items changes)) }
@@ -169,47 +209,52 @@ impl Store {
         ensures err { OnErr result (self.new ≡ self.old) }
     {
         keeps_what_came();
-        joins_no_more();
         listing_is_free();
         order_is_free();
-        let most = self.waiting.len() + changes.as_slice().len();
-        let Ok(()) = self.closed.reserve(most) else {
-            return Err(AllocError);
-        };
+        let held = self.held_for(alloc, changes.as_slice())?;
+        let closed = replace(&mut self.closed, Unseen::none());
+        let contents = replace(&mut self.contents, Bytes::new(alloc));
         let graph = replace(&mut self.graph, Graph::new(alloc));
         let index = replace(&mut self.index, OpIndex::new(alloc));
-        let mut growing = Growing::over(self.closed.as_slice(), graph, index);
+        let parts = Parts {
+            closed,
+            contents,
+            graph,
+            index,
+        };
+        let mut growing = Growing::over(parts, held);
         let Ok(settled) = deliver(
             alloc,
             &mut growing,
-            &mut self.waiting,
-            &mut self.pending,
+            &mut self.waiting.changes,
+            &mut self.waiting.pending,
             changes,
         ) else {
-            let (old_graph, old_index) = growing.cut();
-            self.graph = old_graph;
-            self.index = old_index;
+            let parts = growing.cut();
+            self.closed = parts.closed;
+            self.contents = parts.contents;
+            self.graph = parts.graph;
+            self.index = parts.index;
             return Err(AllocError);
         };
         let Growing {
-            old: _,
+            old,
             fresh: _,
+            contents,
             graph,
             index,
             totals: _,
+            held: _,
         } = growing;
-        let Settled {
-            mut joined,
-            rejected,
-        } = settled;
+        let Settled { joined, rejected } = settled;
         let report = Report {
             added: count_of(joined.as_slice()),
-            waiting: self.waiting.len() as u64,
+            waiting: self.waiting.count(),
             rejected,
         };
-        if self.closed.append(&mut joined).is_err() {
-            unreachable!();
-        }
+        self.counts = counted(index.totals(), report.waiting);
+        self.closed = old;
+        self.contents = contents;
         self.graph = graph;
         self.index = index;
         Ok(report)
@@ -220,9 +265,9 @@ impl Store {
         ensures hashes { IfOk result (λ waiting. waiting ≡ hashes self.now.waiting) }
         ensures ascend { IfOk result (λ waiting. Ascends hash_cmp waiting) }
     {
-        let _count = self.waiting.len();
+        let _count = self.waiting.changes.len();
         let mut hashes = List::new(alloc);
-        for hash in self.waiting.keys() {
+        for hash in self.waiting.changes.keys() {
             hashes.push(*hash)?;
         }
         Ok(hashes)
@@ -236,51 +281,48 @@ impl Store {
         &self.graph
     }
 
+    /// The contents of the canonical document of the closed set. It takes no memory.
+    pub fn contents(&self) -> &[u8]
+        ensures { result.now ≡ body (table self.now.closed) }
+    {
+        self.contents.as_slice()
+    }
+
+    /// The canonical document of the closed set, lent from its contents. It takes no memory.
+    pub fn doc(&self) -> DocRef<'_>
+        ensures { result ≡ table self.now.closed }
+    {
+        doc_of(self.contents.as_slice())
+    }
+
     /// How much the store holds.
     pub fn counts(&self) -> Counts
         ensures { result ≡ counts_of self.now }
     {
-        let totals = self.index.totals();
-        Counts {
-            changes: totals.changes,
-            operations: totals.operations,
-            preds: totals.preds,
-            links: totals.links,
-            waiting: self.waiting.len() as u64,
-        }
+        self.counts
     }
 
     /// The changes of the closed set, in canonical order.
     pub fn closed(&self, alloc: Global) -> Result<List<Change>, AllocError>
         ensures { IfOk result (λ list. list ≡ changes (order self.now.closed)) }
     {
-        let hashes = self.graph.order(alloc)?;
-        changes_with(
-            alloc,
-            &self.graph,
-            self.closed.as_slice(),
-            hashes.as_slice(),
-        )
+        let entries = rebuilt(alloc, self.contents.as_slice())?;
+        without_hashes(alloc, entries)
     }
 
     /// What each change of the closed set is called by, in canonical order.
     pub fn history(&self, alloc: Global) -> Result<List<HistoryLine>, AllocError>
         ensures { IfOk result (λ lines. lines ≡ history self.now.closed) }
     {
-        let hashes = self.graph.order(alloc)?;
-        lines_with(
-            alloc,
-            &self.graph,
-            self.closed.as_slice(),
-            hashes.as_slice(),
-        )
+        let entries = rebuilt(alloc, self.contents.as_slice())?;
+        lines_of(alloc, entries.as_slice())
     }
 
     /// The file of the canonical document of the closed set.
     pub fn save(&self, alloc: Global) -> Result<Bytes, AllocError>
         ensures { IfOk result (λ file. file ≡ document self.now.closed) }
     {
-        document_of(alloc, &self.graph, self.closed.as_slice())
+        framed(alloc, 0, self.contents.as_slice())
     }
 
     /// The file of the canonical document of the closed set, and behind it the chunks of the waiting changes, ascending by
@@ -288,8 +330,8 @@ impl Store {
     pub fn save_all(&self, alloc: Global) -> Result<Bytes, AllocError>
         ensures { IfOk result (λ file. file ≡ saved_all self.now) }
     {
-        let mut file = document_of(alloc, &self.graph, self.closed.as_slice())?;
-        push_chunks(alloc, &mut file, &self.waiting)?;
+        let mut file = framed(alloc, 0, self.contents.as_slice())?;
+        push_chunks(alloc, &mut file, &self.waiting.changes)?;
         Ok(file)
     }
 
@@ -298,10 +340,12 @@ impl Store {
         ensures { IfOk result (λ found. found ≡ chunk_in self.now.closed hash.now) }
     {
         valid_sets_keep_rules();
-        match self.graph.place(hash) {
-            Some(place) => Ok(Some(chunk_of(alloc, &self.closed[place].1)?)),
-            None => Ok(None),
+        if !self.graph.holds(hash) {
+            return Ok(None);
         }
+        let entries = listed(alloc, &self.graph, self.contents.as_slice())?;
+        let change = change_at(&self.graph, entries.as_slice(), hash);
+        Ok(Some(chunk_of(alloc, change)?))
     }
 
     /// The changes with these hashes and their ancestors, in the order in which the closed set is listed.
@@ -311,7 +355,8 @@ impl Store {
         ensures unknown { IfErr result (λ fault. MatchFault fault (λ h. find (λ k. not (holds self.now.closed k)) heads.now ≡ Some h)) }
     {
         let hashes = self.graph.ancestors(alloc, heads)?;
-        let list = changes_among(alloc, self.closed.as_slice(), hashes.as_slice())?;
+        let entries = listed(alloc, &self.graph, self.contents.as_slice())?;
+        let list = changes_among(alloc, entries.as_slice(), hashes.as_slice())?;
         Ok(list)
     }
 }
@@ -325,16 +370,34 @@ fn count_of(changes: &[(Hash, Change)]) -> u64
 
 impl Twin for Store {
     fn copy(&self, alloc: Global) -> Result<Store, AllocError> {
-        let closed = list_copied(alloc, self.closed.as_slice())?;
-        let waiting = map_copied(alloc, &self.waiting)?;
+        let contents = self.contents.copy(alloc)?;
         let graph = self.graph.copy(alloc)?;
         let index = self.index.copy(alloc)?;
+        let waiting = self.waiting.copied(alloc)?;
         Ok(Store {
-            closed,
-            waiting,
-            pending: None,
+            contents,
             graph,
             index,
+            waiting,
+            counts: self.counts,
+            alloc,
+            closed: self.closed.again(),
         })
+    }
+}
+
+#[cfg(test)]
+impl Store {
+    /// These are all fields, so no list of decoded changes is kept. Of `closed` the code has nothing.
+    pub(crate) fn has_these_fields(&self) {
+        let Store {
+            contents: _,
+            graph: _,
+            index: _,
+            waiting: _,
+            counts: _,
+            alloc: _,
+            closed: _,
+        } = self;
     }
 }

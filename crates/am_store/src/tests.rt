@@ -176,3 +176,10 @@ fn changes(alloc: Global) -> Result<List<Change>, Fail>
     changes.push(change)?;
     Ok(changes)
 }
+
+#[test]
+fn no_list_of_changes_is_kept(rt: HostRuntime) -> Result<(), Fail> {
+    let store = Store::new(rt.alloc())?;
+    store.has_these_fields();
+    Ok(())
+}

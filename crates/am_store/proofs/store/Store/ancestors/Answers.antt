@@ -7,6 +7,7 @@ use Rattle.am_graph.specs.Graphs.{nodes, MatchFault}
 use Rattle.am_delivery.specs.Waiting.{members_of}
 use Rattle.am_store.specs.Kept.{Kept}
 use Rattle.am_store.proofs.Picking.{of_ancestors, all_held, first_missing}
+use Rattle.am_store.proofs.Wholes.{lent}
 use Rattle.am_store.proofs.store.Store.ancestors.Goals as goal
 
 pub returns-in_err-hashes-clause-unknown : goal.returns-in_err-hashes-clause-unknown
@@ -14,12 +15,18 @@ returns-in_err-hashes-clause-unknown c =
     let of : c.self.inside.graph ≡ nodes c.args.self.now.closed = c.self.invariant.of_set.graph ∙ ap (λ (k : Kept). nodes k.closed) c.self.view_is in
     subst (λ o. IfErr c.from_residual.result (λ fault. MatchFault fault (λ h. o ≡ Some h))) (first_missing c.self.inside.graph c.args.self.now.closed c.args.heads.now of) (search rules)
 
+pub listed-requires : goal.listed-requires
+listed-requires c = (members_of c.self.inside.closed.entries, lent c.self.inside c.self.invariant c.as_slice.result.now c.as_slice.ensures, c.self.invariant.of_set.graph)
+
 pub returns-clause-ok : goal.returns-clause-ok
 returns-clause-ok c =
-    let C = members_of c.self.inside.closed.items in
+    let C = members_of c.self.inside.closed.entries in
+    let is = lent c.self.inside c.self.invariant c.as_slice.result.now c.as_slice.ensures in
     let found = c.in_ok-hashes.ensures.ok C c.self.invariant.of_set.graph in
+    let listed = c.in_ok-entries.ensures C is c.self.invariant.of_set.graph in
     c.in_ok-list.ensures
-    ∙ (λ i. changes (filter (λ m. among hash_cmp (c.as_slice-2.ensures i) m.hash) (members_of (c.as_slice.ensures.value i))))
+    ∙ (λ i. changes (filter (λ m. among hash_cmp (c.as_slice-3.ensures i) m.hash) (members_of (c.as_slice-2.ensures.value i))))
+    ∙ ap (λ D. changes (filter (λ m. among hash_cmp c.in_ok-hashes.hashes m.hash) D)) listed
     ∙ ap changes (of_ancestors C c.args.heads.now c.in_ok-hashes.hashes found)
     ∙ ap (λ (k : Kept). changes (ancestors k.closed c.args.heads.now)) c.self.view_is
 

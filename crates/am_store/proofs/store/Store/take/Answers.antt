@@ -1,153 +1,132 @@
-use Rattle.std.proofs.Common.{true, false, not, cond, ◌≡◌, List, [], ◌++◌, length, IsPermutation, vec_items, refl, sym, ap, subst, ◌∙◌, arith}
-use Rattle.std.proofs.lemmas.Bool.{both_ways}
+use Rattle.std.proofs.Common.{◌≡◌, List, ◌++◌, length, vec_items, sym, ap, subst, ◌∙◌}
+use Rattle.std.specs.Prelude.{IfSome}
 use Rattle.std.proofs.lemmas.List.{length-map}
-use Rattle.std.specs.Result.{is_ok}
 use Rattle.am_types.specs.declared.Hash.{Hash}
 use Rattle.am_types.specs.declared.Change.{Change}
 use Rattle.am_types.specs.Members.{Member}
-use Rattle.am_types.specs.Deliver.{AreStored, deliver}
-use Rattle.am_types.specs.ValidSets.{Valid}
+use Rattle.am_types.specs.Documents.{table}
+use Rattle.am_doc.specs.Contents.{body}
 use Rattle.am_fits.specs.Indexes.{AreOf}
 use Rattle.am_delivery.specs.Waiting.{member_of, members_of, waiting_of, IsTracked}
-use Rattle.am_store.specs.Grown.{Grown}
-use Rattle.am_store.specs.Kept.{Kept, IsKept, Takes}
+use Rattle.am_store.specs.Grown.{Grown, AreHeld}
+use Rattle.am_store.specs.Growing.{ArePartsOf}
+use Rattle.am_store.specs.Kept.{Kept, IsKept, Takes, counts_of}
+use Rattle.am_store.specs.declared.parts.Parts.{Parts}
 use Rattle.am_store.specs.declared.report.Report.{Report}
+use Rattle.am_store.specs.declared.unseen.Unseen.{Unseen}
 use Rattle.am_store.proofs.AnyOrder.{in_any_order}
-use Rattle.am_store.proofs.Taking.{same_closed, begins_stored, begins_tracked, tracked_after, few_joined, kept_after, of_after, takes}
+use Rattle.am_store.proofs.Counting.{counted_of}
+use Rattle.am_store.proofs.Taking.{begins, at_start, rests, starts_stored, starts_tracked, both_own, kept_after, takes}
+use Rattle.am_store.proofs.Wholes.{its_parts}
 use Rattle.am_store.proofs.store.Store.take.Goals as goal
+
+abbrev entries_of : Unseen → List (Hash × Change)
+entries_of u = u.entries
 
 abbrev kept_of : List (Hash × Change) → List Member → Kept
 kept_of es W = record { closed = members_of es; waiting = W }
 
-pub over-growing-requires-clause-of_set : goal.over-growing-requires-clause-of_set
-over-growing-requires-clause-of_set c =
-    let C = members_of c.self.inside.closed.items in
-    let lent = c.as_slice-2.ensures.value ∙ c.reserve.ensures.items in
-    subst (λ es. AreOf (members_of es) c.replace-graph.result c.replace-index.result) (sym lent)
-    (subst (λ g. AreOf C g c.replace-index.result) (sym c.replace-graph.ensures.value)
-    (subst (λ ix. AreOf C c.self.inside.graph ix) (sym c.replace-index.ensures.value) c.self.invariant.of_set))
+pub over-growing-requires-clause-parts : goal.over-growing-requires-clause-parts
+over-growing-requires-clause-parts c =
+    let s = c.self.inside in
+    let same : ◌≡◌ {A = Parts} (record { closed = s.closed; contents = s.contents; graph = s.graph; index = s.index }) (record { closed = c.replace-closed.result; contents = c.replace-contents.result; graph = c.replace-graph.result; index = c.replace-index.result }) =
+    (λ i. record { closed = sym c.replace-closed.ensures.value i; contents = sym c.replace-contents.ensures.value i; graph = sym c.replace-graph.ensures.value i; index = sym c.replace-index.ensures.value i }) in
+    subst (λ (p : Parts). ArePartsOf p.closed.entries p) same (its_parts s c.self.invariant)
 
-pub over-growing-requires-clause-valid : goal.over-growing-requires-clause-valid
-over-growing-requires-clause-valid c =
-    let lent = c.as_slice-2.ensures.value ∙ c.reserve.ensures.items in
-    subst (λ es. Valid (members_of es)) (sym lent) c.self.invariant.kept.stored.valid
+pub over-growing-requires-clause-held : goal.over-growing-requires-clause-held
+over-growing-requires-clause-held c =
+    let lent = ap entries_of c.replace-closed.ensures.value in
+    subst (λ es. AreHeld es c.in_ok-held.held) (sym lent)
+    (subst (λ (k : Kept). IfSome c.in_ok-held.held (λ v. members_of (vec_items v) ≡ k.closed)) (sym c.self.view_is) c.in_ok-held.ensures)
 
 pub deliver-requires-clause-rest : goal.deliver-requires-clause-rest
 deliver-requires-clause-rest c =
-    let old = c.self.inside.closed.items in
-    let w = c.self.inside.waiting in
-    let lent = c.as_slice-2.ensures.value ∙ c.reserve.ensures.items in
-    let begun : ◌≡◌ {A = Grown} c.over-growing.result (record { old = old; fresh = [] }) = c.over-growing.ensures ∙ (λ i. record { old = lent i; fresh = [] }) in
-    subst (λ (g : Grown). members_of (g.old ++ g.fresh) ≡ members_of g.old) (sym begun) (same_closed old w w refl)
+    rests c.self.inside.closed.entries c.over-growing.result (c.over-growing.ensures ∙ ap (λ es. begins es) (ap entries_of c.replace-closed.ensures.value))
 
 pub deliver-requires-clause-stored : goal.deliver-requires-clause-stored
 deliver-requires-clause-stored c =
-    let old = c.self.inside.closed.items in
-    let w = c.self.inside.waiting in
-    let lent = c.as_slice-2.ensures.value ∙ c.reserve.ensures.items in
-    let begun : ◌≡◌ {A = Grown} c.over-growing.result (record { old = old; fresh = [] }) = c.over-growing.ensures ∙ (λ i. record { old = lent i; fresh = [] }) in
-    subst (λ (g : Grown). AreStored (members_of (g.old ++ g.fresh)) (waiting_of w)) (sym begun) (begins_stored old w w refl c.self.invariant.kept.stored)
+    starts_stored c.self.inside.closed.entries c.over-growing.result (c.over-growing.ensures ∙ ap (λ es. begins es) (ap entries_of c.replace-closed.ensures.value))
+    (waiting_of c.self.inside.waiting.changes) c.self.invariant.kept.stored
 
 pub deliver-requires-clause-tracked : goal.deliver-requires-clause-tracked
 deliver-requires-clause-tracked c =
-    let old = c.self.inside.closed.items in
-    let w = c.self.inside.waiting in
-    let lent = c.as_slice-2.ensures.value ∙ c.reserve.ensures.items in
-    let begun : ◌≡◌ {A = Grown} c.over-growing.result (record { old = old; fresh = [] }) = c.over-growing.ensures ∙ (λ i. record { old = lent i; fresh = [] }) in
-    subst (λ (g : Grown). IsTracked (members_of (g.old ++ g.fresh)) (waiting_of w) c.self.inside.pending) (sym begun) (begins_tracked old w w refl c.self.inside.pending c.self.invariant.tracked)
+    starts_tracked c.self.inside.closed.entries c.over-growing.result (c.over-growing.ensures ∙ ap (λ es. begins es) (ap entries_of c.replace-closed.ensures.value))
+    (waiting_of c.self.inside.waiting.changes) c.self.inside.waiting.pending c.self.invariant.tracked
 
-pub returns-in_default-clause-err : goal.returns-in_default-clause-err
-returns-in_default-clause-err c = ap (λ es. kept_of es (waiting_of c.self.inside.waiting)) c.reserve.ensures.items ∙ c.self.view_is
+pub deliver-requires-clause-admitted : goal.deliver-requires-clause-admitted
+deliver-requires-clause-admitted c =
+    both_own (kept_of c.self.inside.closed.entries (waiting_of c.self.inside.waiting.changes)) c.self.invariant.kept (members_of (vec_items c.args.changes)) c.requires.own_hashes
 
-pub returns-in_default-deliver-clause-err : goal.returns-in_default-deliver-clause-err
-returns-in_default-deliver-clause-err c = (λ i. record { closed = members_of (c.reserve.ensures.items i); waiting = c.in_default-deliver.ensures.err i }) ∙ c.self.view_is
-
-pub invariant_of-self-in_default-deliver : goal.invariant_of-self-in_default-deliver
-invariant_of-self-in_default-deliver c =
-    let same : ◌≡◌ {A = Kept} (record { closed = members_of c.reserve.new.self.items; waiting = waiting_of c.deliver.new.waiting }) (kept_of c.self.inside.closed.items (waiting_of c.self.inside.waiting)) =
-    (λ i. record { closed = members_of (c.reserve.ensures.items i); waiting = c.in_default-deliver.ensures.err i }) in
-    let lent = c.as_slice-2.ensures.value ∙ c.reserve.ensures.items in
-    let base = c.deliver.ensures.base ∙ ap (λ (g : Grown). members_of g.old) c.over-growing.ensures ∙ ap members_of c.as_slice-2.ensures.value in
+pub invariant_of-self : goal.invariant_of-self
+invariant_of-self c =
+    let es = c.self.inside.closed.entries in
+    let W = waiting_of c.self.inside.waiting.changes in
+    let begun : c.over-growing.result ≡ begins es = c.over-growing.ensures ∙ ap (λ l. begins l) (ap entries_of c.replace-closed.ensures.value) in
+    let base = c.in_default.ensures.base ∙ ap (λ (g : Grown). members_of g.old) begun in
+    let parts = c.cut-parts.result in
+    let cut = c.cut-parts.ensures in
+    let closed : members_of parts.closed.entries ≡ members_of es = ap members_of cut.closed ∙ base in
+    let same : ◌≡◌ {A = Kept} (kept_of parts.closed.entries (waiting_of c.deliver.new.waiting)) (kept_of es W) = (λ i. record { closed = closed i; waiting = c.in_default.ensures.err i }) in
     record {
       kept = subst IsKept (sym same) c.self.invariant.kept;
-      of_set = subst (λ C. AreOf C c.cut-old_graph.result.0 c.cut-old_graph.result.1) base c.cut-old_graph.ensures;
-      tracked = subst (IsTracked (members_of c.reserve.new.self.items) (waiting_of c.deliver.new.waiting)) (sym c.in_default-deliver.ensures.unknown) tt;
+      contents = cut.contents.bytes_are ∙ ap (λ l. body (table (members_of l))) (sym cut.closed);
+      of_set = subst (λ l. AreOf (members_of l) parts.graph parts.index) (sym cut.closed) cut.of_set;
+      counts = c.self.invariant.counts ∙ ap counts_of (sym same);
+      tracked = subst (IsTracked (members_of parts.closed.entries) (waiting_of c.deliver.new.waiting)) (sym c.in_default.ensures.unknown) tt;
     }
 
-pub unreachable-requires : goal.unreachable-requires
-unreachable-requires c =
-    let old = c.self.inside.closed.items in
-    let w = c.self.inside.waiting in
-    let C : List Member = members_of (c.deliver.new.closed.old ++ c.deliver.new.closed.fresh) in
-    let joined = c.in-Ok-deliver.settled.joined.items in
-    let u = c.deliver.new.waiting in
-    let L : List Member = members_of (vec_items c.args.changes) in
-    let lent = c.as_slice-2.ensures.value ∙ c.reserve.ensures.items in
-    let begun : ◌≡◌ {A = Grown} c.over-growing.result (record { old = old; fresh = [] }) = c.over-growing.ensures ∙ (λ i. record { old = lent i; fresh = [] }) in
-    let closed : C ≡ (deliver (members_of (old ++ [])) (waiting_of w) L).closed = c.in-Ok-deliver.ensures.closed ∙ ap (λ (g : Grown). (deliver (members_of (g.old ++ g.fresh)) (waiting_of w) L).closed) begun in
-    let waiting = subst (λ (g : Grown). IsPermutation (deliver (members_of (g.old ++ g.fresh)) (waiting_of w) L).waiting (waiting_of u)) begun c.in-Ok-deliver.ensures.waiting in
-    let stored = c.in-Ok-deliver.ensures.stored in
-    let more : C ≡ members_of (old ++ []) ++ members_of joined = c.in-Ok-deliver.ensures.joined ∙ ap (λ (g : Grown). members_of (g.old ++ g.fresh) ++ members_of joined) begun in
-    let failed : is_ok c.append.result ≡ false = c.is_err.ensures.negation ∙ ap not c.if-is_err.true in
-    let few = few_joined old w w refl C joined u L closed waiting stored more c.joins_no_more.ensures in
-    let room = c.in-Ok.ensures.ok in
-    let waited = c.len.ensures.len in
-    let came = ap length c.as_slice.ensures.value in
-    let listed = length-map (vec_items c.args.changes) member_of in
-    let long = c.as_slice-3.ensures.len in
-    let count = ap length c.as_slice-3.ensures.value in
-    both_ways (is_ok c.append.result) failed (c.append.ensures.succeeds (omega arith))
+pub returns-in_default-clause-err : goal.returns-in_default-clause-err
+returns-in_default-clause-err c =
+    let es = c.self.inside.closed.entries in
+    let begun : c.over-growing.result ≡ begins es = c.over-growing.ensures ∙ ap (λ l. begins l) (ap entries_of c.replace-closed.ensures.value) in
+    let closed : members_of c.cut-parts.result.closed.entries ≡ members_of es = ap members_of c.cut-parts.ensures.closed ∙ c.in_default.ensures.base ∙ ap (λ (g : Grown). members_of g.old) begun in
+    (λ i. record { closed = closed i; waiting = c.in_default.ensures.err i }) ∙ c.self.view_is
 
 pub invariant_of-self-2 : goal.invariant_of-self-2
 invariant_of-self-2 c =
-    let old = c.self.inside.closed.items in
-    let w = c.self.inside.waiting in
-    let C : List Member = members_of (c.deliver.new.closed.old ++ c.deliver.new.closed.fresh) in
-    let joined = c.in-Ok-deliver.settled.joined.items in
-    let u = c.deliver.new.waiting in
-    let L : List Member = members_of (vec_items c.args.changes) in
-    let lent = c.as_slice-2.ensures.value ∙ c.reserve.ensures.items in
-    let begun : ◌≡◌ {A = Grown} c.over-growing.result (record { old = old; fresh = [] }) = c.over-growing.ensures ∙ (λ i. record { old = lent i; fresh = [] }) in
-    let closed : C ≡ (deliver (members_of (old ++ [])) (waiting_of w) L).closed = c.in-Ok-deliver.ensures.closed ∙ ap (λ (g : Grown). (deliver (members_of (g.old ++ g.fresh)) (waiting_of w) L).closed) begun in
-    let waiting = subst (λ (g : Grown). IsPermutation (deliver (members_of (g.old ++ g.fresh)) (waiting_of w) L).waiting (waiting_of u)) begun c.in-Ok-deliver.ensures.waiting in
-    let stored = c.in-Ok-deliver.ensures.stored in
-    let more : C ≡ members_of (old ++ []) ++ members_of joined = c.in-Ok-deliver.ensures.joined ∙ ap (λ (g : Grown). members_of (g.old ++ g.fresh) ++ members_of joined) begun in
-    let done : is_ok c.append.result ≡ true = c.is_err.ensures.negation ∙ ap not c.if-is_err.false in
-    let items : c.append.new.self.items ≡ old ++ joined = c.append.ensures.items ∙ ap (λ b. cond b (c.reserve.new.self.items ++ joined) c.reserve.new.self.items) done ∙ ap (λ es. es ++ joined) c.reserve.ensures.items in
+    let es = c.self.inside.closed.entries in
+    let W = waiting_of c.self.inside.waiting.changes in
+    let g = c.over-growing.result in
+    let h = c.deliver.new.closed in
+    let w = c.deliver.new.waiting in
+    let did = c.in-Ok.ensures in
+    let grown = c.growing.inside in
+    let D = members_of grown.old.entries in
+    let begun : g ≡ begins es = c.over-growing.ensures ∙ ap (λ l. begins l) (ap entries_of c.replace-closed.ensures.value) in
+    let rest : members_of (h.old ++ h.fresh) ≡ D = did.rest ∙ sym (ap (λ (x : Grown). members_of x.old) c.growing.view_is) in
+    let all : members_of (grown.old.entries ++ grown.fresh.entries) ≡ D = subst (λ (x : Grown). members_of (x.old ++ x.fresh) ≡ members_of x.old) (sym c.growing.view_is) did.rest in
+    let of : AreOf D grown.graph grown.index = subst (λ C. AreOf C grown.graph grown.index) all c.growing.invariant.grown.of_set in
     record {
-      kept = subst (λ es. IsKept (kept_of es (waiting_of u))) (sym items) (kept_after old w w refl C joined u L closed waiting stored more c.keeps_what_came.ensures c.self.invariant.kept.own_hashes c.requires.own_hashes);
-      of_set = subst (λ es. AreOf (members_of es) c.growing.inside.graph c.growing.inside.index) (sym items) (of_after old w w refl C joined u L closed waiting stored more c.growing.inside.graph c.growing.inside.index (subst (λ (g : Grown). AreOf (members_of (g.old ++ g.fresh)) c.growing.inside.graph c.growing.inside.index) c.growing.view_is c.growing.invariant.of_set));
-      tracked = subst (λ es. IsTracked (members_of es) (waiting_of u) c.deliver.new.pending) (sym items)
-          (tracked_after old w w refl C joined u L closed waiting stored more c.deliver.new.pending c.in-Ok-deliver.ensures.tracked);
+      kept = kept_after es W (members_of (vec_items c.args.changes)) (members_of (g.old ++ g.fresh)) (members_of (h.old ++ h.fresh)) D (waiting_of w) c.in-Ok.settled.joined.items
+          (at_start es g begun) did.closed did.waiting did.stored did.joined rest c.keeps_what_came.ensures c.self.invariant.kept.own_hashes c.requires.own_hashes;
+      contents = c.growing.invariant.contents.bytes_are;
+      of_set = of;
+      counts = counted_of (record { closed = D; waiting = waiting_of w }) grown.graph grown.index of c.totals.result c.count.result (c.count.ensures ∙ sym (length-map w.entries member_of)) c.totals.ensures c.counted-self-inside.result c.counted-self-inside.ensures;
+      tracked = subst (λ C. IsTracked C (waiting_of w) c.deliver.new.pending) rest did.tracked;
     }
 
 pub returns-clause-ok : goal.returns-clause-ok
 returns-clause-ok c =
-    let old = c.self.inside.closed.items in
-    let w = c.self.inside.waiting in
-    let C : List Member = members_of (c.deliver.new.closed.old ++ c.deliver.new.closed.fresh) in
-    let joined = c.in-Ok-deliver.settled.joined.items in
-    let u = c.deliver.new.waiting in
-    let L : List Member = members_of (vec_items c.args.changes) in
-    let lent = c.as_slice-2.ensures.value ∙ c.reserve.ensures.items in
-    let begun : ◌≡◌ {A = Grown} c.over-growing.result (record { old = old; fresh = [] }) = c.over-growing.ensures ∙ (λ i. record { old = lent i; fresh = [] }) in
-    let closed : C ≡ (deliver (members_of (old ++ [])) (waiting_of w) L).closed = c.in-Ok-deliver.ensures.closed ∙ ap (λ (g : Grown). (deliver (members_of (g.old ++ g.fresh)) (waiting_of w) L).closed) begun in
-    let waiting = subst (λ (g : Grown). IsPermutation (deliver (members_of (g.old ++ g.fresh)) (waiting_of w) L).waiting (waiting_of u)) begun c.in-Ok-deliver.ensures.waiting in
-    let stored = c.in-Ok-deliver.ensures.stored in
-    let more : C ≡ members_of (old ++ []) ++ members_of joined = c.in-Ok-deliver.ensures.joined ∙ ap (λ (g : Grown). members_of (g.old ++ g.fresh) ++ members_of joined) begun in
-    let done : is_ok c.append.result ≡ true = c.is_err.ensures.negation ∙ ap not c.if-is_err.false in
-    let items : c.append.new.self.items ≡ old ++ joined = c.append.ensures.items ∙ ap (λ b. cond b (c.reserve.new.self.items ++ joined) c.reserve.new.self.items) done ∙ ap (λ es. es ++ joined) c.reserve.ensures.items in
-    let rejected = c.in-Ok-deliver.ensures.rejected ∙ ap (λ (g : Grown). (deliver (members_of (g.old ++ g.fresh)) (waiting_of w) L).rejected) begun in
-    let count : c.count_of.result ≡ length joined = c.count_of.ensures ∙ ap length c.as_slice-3.ensures.value in
-    let wait = c.len-2.ensures.len ∙ sym (length-map u.entries member_of) in
-    let report : Report = record { added = c.count_of.result; waiting = c.len-2.result; rejected = c.in-Ok-deliver.settled.rejected } in
-    let took = takes old w w refl C joined u L closed waiting stored more c.in-Ok-deliver.settled.rejected c.count_of.result c.len-2.result rejected count wait in
-    subst (λ (o : Kept). Takes o L report (kept_of c.append.new.self.items (waiting_of u))) c.self.view_is
-    (subst (λ es. Takes (kept_of old (waiting_of w)) L report (kept_of es (waiting_of u))) (sym items) took)
+    let es = c.self.inside.closed.entries in
+    let W = waiting_of c.self.inside.waiting.changes in
+    let L = members_of (vec_items c.args.changes) in
+    let g = c.over-growing.result in
+    let h = c.deliver.new.closed in
+    let w = c.deliver.new.waiting in
+    let did = c.in-Ok.ensures in
+    let D = members_of c.growing.inside.old.entries in
+    let joined = c.in-Ok.settled.joined.items in
+    let begun : g ≡ begins es = c.over-growing.ensures ∙ ap (λ l. begins l) (ap entries_of c.replace-closed.ensures.value) in
+    let rest : members_of (h.old ++ h.fresh) ≡ D = did.rest ∙ sym (ap (λ (x : Grown). members_of x.old) c.growing.view_is) in
+    let count : c.count_of.result ≡ length joined = c.count_of.ensures ∙ ap length c.as_slice-2.ensures.value in
+    let report : Report = record { added = c.count_of.result; waiting = c.count.result; rejected = c.in-Ok.settled.rejected } in
+    subst (λ (o : Kept). Takes o L report (record { closed = D; waiting = waiting_of w })) c.self.view_is
+    (takes es W L (members_of (g.old ++ g.fresh)) (members_of (h.old ++ h.fresh)) D (waiting_of w) joined (at_start es g begun) did.closed did.waiting did.stored did.joined rest
+    c.in-Ok.settled.rejected c.count_of.result c.count.result did.rejected count (c.count.ensures ∙ sym (length-map w.entries member_of)))
 
 pub returns-clause-order : goal.returns-clause-order
 returns-clause-order c =
-    let report : Report = record { added = c.count_of.result; waiting = c.len-2.result; rejected = c.in-Ok-deliver.settled.rejected } in
-    let new = kept_of c.append.new.self.items (waiting_of c.deliver.new.waiting) in
+    let report : Report = record { added = c.count_of.result; waiting = c.count.result; rejected = c.in-Ok.settled.rejected } in
+    let new : Kept = kept_of c.growing.inside.old.entries (waiting_of c.deliver.new.waiting) in
     let kept = subst IsKept c.self.view_is c.self.invariant.kept in
     in_any_order c.listing_is_free.ensures c.args.self.now new (members_of (vec_items c.args.changes)) report kept c.requires.may_come (returns-clause-ok c) c.order_is_free.ensures

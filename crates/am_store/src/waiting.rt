@@ -1,0 +1,48 @@
+//! The changes of a store that wait for dependencies.
+ghost use Rattle.std.specs.Prelude.{◌≡◌, IfOk, None, [], length};
+
+use crate::copies::map_copied;
+use am_delivery::Pending;
+use am_types::{Change, Hash};
+use std::alloc::{AllocError, Global};
+use std::collections::BTreeMap;
+
+/// Changes that wait, and what they lack.
+#[derive(Drop)]
+pub struct Waiting {
+    pub changes: BTreeMap<Hash, Change>,
+    /// After a delivery that failed, and in a copy, it isn't known before the next one.
+    pub pending: Option<Pending>,
+}
+
+impl Waiting {
+    /// None wait.
+    pub fn none(alloc: Global) -> Waiting
+        ensures changes { result.changes.entries ≡ [] }
+        ensures pending { result.pending ≡ None }
+    {
+        Waiting {
+            changes: BTreeMap::new(alloc),
+            pending: None,
+        }
+    }
+
+    /// How many wait.
+    pub fn count(&self) -> u64
+        ensures { result ≡ length self.now.changes.entries }
+    {
+        self.changes.len() as u64
+    }
+
+    /// The same changes. What they lack isn't known there.
+    pub fn copied(&self, alloc: Global) -> Result<Waiting, AllocError>
+        ensures changes { IfOk result (λ twin. twin.changes.entries ≡ self.now.changes.entries) }
+        ensures pending { IfOk result (λ twin. twin.pending ≡ None) }
+    {
+        let changes = map_copied(alloc, &self.changes)?;
+        Ok(Waiting {
+            changes,
+            pending: None,
+        })
+    }
+}
