@@ -10,12 +10,12 @@ ghost use Rattle.am_cli.specs.Answered.{Answered, seen};
 ghost use Rattle.am_cli.specs.FirstFault.{Ended, is_err_at, is_file_stop};
 
 use crate::apply::apply;
+use crate::audit::audit;
 use crate::bench::bench;
 use crate::halt::Stop;
 use crate::heads::{list_heads, list_waiting};
 use crate::history::list_history;
 use crate::listing::list_frames;
-use crate::reading::read;
 use crate::replies::refusal;
 use crate::request::RequestRef;
 use crate::saving::{exported, saved, saved_all};
@@ -126,7 +126,7 @@ pub fn answer<F: Folder>(
             Ok(session.show(alloc, Form::All, named.as_slice())?)
         }
         RequestRef::Do(Command::Audit(named)) => {
-            Ok(read(alloc, Form::Winners, named.as_slice(), session.store())?)
+            Ok(audit(alloc, named.as_slice(), session.store())?)
         }
         RequestRef::Do(Command::Export(hash, name)) => {
             exported(alloc, hash, name, session, files)

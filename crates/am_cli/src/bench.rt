@@ -3,7 +3,7 @@ ghost use Rattle.std.specs.Prelude.{◌≡◌, ◌≤◌, length, IfOk, IsPermut
 ghost use Rattle.am_store.specs.Saved.{document};
 ghost use Rattle.am_cli.specs.Bench.{generated, measures_line, measures, measured_as_shown, bench_text};
 
-use crate::reading::read;
+use crate::reading::read_at;
 use crate::replies::{push_number, refusal, refuses};
 use am_gen::made;
 use am_json::Form;
@@ -61,7 +61,8 @@ fn measured(alloc: Global, store: &Store, file: &[u8]) -> Result<Bytes, AllocErr
     requires { file.now ≡ document store.now.closed }
     ensures { IfOk result (λ reply. reply ≡ measured_as_shown store.now.closed) }
 {
-    let shown = read(alloc, Form::Winners, &[], store)?;
+    let heads = store.graph().heads(alloc)?;
+    let shown = read_at(alloc, Form::Winners, heads.as_slice(), store)?;
     if refuses(shown.as_slice()) {
         return Ok(shown);
     }

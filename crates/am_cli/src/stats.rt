@@ -6,20 +6,15 @@ ghost use Rattle.am_cli.specs.Stats.{stats_line, stats_text};
 
 use crate::replies::push_number;
 use crate::session::Session;
-use am_frame::next_frame;
 use am_store::{Counts, Store};
 use am_types::Bytes;
 use std::alloc::{AllocError, Global};
 
 // How long the contents of the document are.
-fn contents_length(alloc: Global, store: &Store) -> Result<u64, AllocError>
-    ensures { IfOk result (λ count. count ≡ length (body (table store.now.closed))) }
+fn contents_length(store: &Store) -> u64
+    ensures { result ≡ length (body (table store.now.closed)) }
 {
-    let file = store.save(alloc)?;
-    match next_frame(file.as_slice()) {
-        Ok(frame) => Ok(frame.contents.len() as u64),
-        Err(_) => unreachable!(),
-    }
+    store.contents().len() as u64
 }
 
 // The line that tells these numbers.
@@ -43,6 +38,6 @@ pub fn tell_stats(alloc: Global, session: &Session) -> Result<Bytes, AllocError>
     ensures { IfOk result (λ reply. reply ≡ stats_text session.now.kept session.now.views.hits) }
 {
     let counts = session.store().counts();
-    let bytes = contents_length(alloc, session.store())?;
+    let bytes = contents_length(session.store());
     stats_line(alloc, counts, bytes, session.hits())
 }
