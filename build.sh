@@ -21,22 +21,25 @@ at_once=$processors
 [ "$at_once" -ge 1 ] || at_once=1
 
 # While rt works on a crate, no other rt may work on one that it stands on. So each crate is proved in a copy of the
-# sources. rt shares what it proved among copies by a folder beside its kit; where it can't, there is no copy.
-kit=$(rt doc) && kept=$(dirname -- "$(dirname -- "$kit")")/rattle-kept
-mkdir -p "$kept" 2>/dev/null && [ -w "$kept" ] || at_once=1
-
-# What rt kept of each crate goes to the clone's own folder, so that after a pull it proves only what changed.
+# sources, over the libraries that were built in other copies. What rt keeps of a crate goes to the clone's own folder,
+# also of one that was cut off, so that it is proved once, and after a pull only what changed.
 keep_work() {
+  for part in rlib incremental; do
+    kept=$work/copies/$1/crates/$1/out/$part
+    [ ! -d "$kept" ] || { rm -rf "crates/$1/out/$part" && mv "$kept" "crates/$1/out/"; }
+  done
+  rm -rf "$work/copies/$1"
+}
+keep_all() {
   for name in $(ls "$work/copies" 2>/dev/null); do
-    kept=$work/copies/$name/crates/$name/out/incremental
-    [ ! -d "$kept" ] || [ -d "crates/$name/out/incremental" ] || mv "$kept" "crates/$name/out/" 2>/dev/null
+    keep_work "$name"
   done
   rm -rf "$work"
 }
 rm -rf "$work"
 mkdir -p "$work/copies" "$work/at-work" "$work/done" "$work/failed" || exit 1
 : >"$log"
-trap keep_work EXIT
+trap keep_all EXIT
 # (a shell's jobs don't see an interrupt)
 trap 'trap "" TERM; kill 0; wait; exit 1' INT HUP TERM
 
@@ -64,26 +67,33 @@ awk -F: '
 
 count() { ls "$work/$1" | wc -l; }
 
+# A copy of the sources for the proof of a crate, with the libraries that are built, and what was kept of this crate.
+copy_for() {
+  # (.git marks the top of a repository, where rt looks for crates.txt)
+  mkdir -p "$2/.git" && cp crates.txt HANDLES "$2" || return 1
+  for crate in crates/*; do
+    mkdir -p "$2/$crate/out" || return 1
+    for part in src specs proofs; do
+      [ ! -d "$crate/$part" ] || cp -R "$crate/$part" "$2/$crate" || return 1
+    done
+    [ "$crate" != "crates/$1" ] && [ -e "$work/done/${crate#crates/}" ] || continue
+    cp -Rl "$crate/out/rlib" "$2/$crate/out" 2>/dev/null || cp -R "$crate/out/rlib" "$2/$crate/out" || return 1
+  done
+  for part in rlib incremental; do
+    [ ! -d "crates/$1/out/$part" ] || mv "crates/$1/out/$part" "$2/crates/$1/out" || return 1
+  done
+}
+
 # Proves a crate: alone with all processors, else with those that are left, two at least.
 prove() {
-  here=.
-  if [ "$at_once" -gt 1 ]; then
-    here=$work/copies/$1
-    # (.git marks the top of a repository, where rt looks for crates.txt)
-    mkdir -p "$here/.git" && cp crates.txt HANDLES "$here" || return 1
-    for crate in crates/*; do
-      mkdir -p "$here/$crate" || return 1
-      for part in src specs proofs; do
-        [ ! -d "$crate/$part" ] || cp -R "$crate/$part" "$here/$crate" || return 1
-      done
-    done
-  fi
+  copy_for "$1" "$work/copies/$1" || return 1
   jobs=$((processors + 1 - $(count at-work)))
   [ "$jobs" -ge 2 ] || jobs=2
   [ "$jobs" -le "$processors" ] || jobs=$processors
   verb=lib
   [ ! -f "crates/$1/src/main.rt" ] || verb=check
-  (cd "$here/crates/$1" && nice -n "$2" rt "$verb" --jobs "$jobs") >"crates/$1/out/check.log" 2>&1
+  (cd "$work/copies/$1/crates/$1" && nice -n "$2" rt "$verb" --jobs "$jobs") >"crates/$1/out/check.log" 2>&1 &&
+    keep_work "$1"
 }
 
 of=$(grep -c . "$work/plan")
