@@ -7,8 +7,6 @@ mod fault;
 mod laws;
 mod list;
 mod parts;
-#[cfg(test)]
-mod tests;
 mod writer;
 
 pub use actors::ActorList;

@@ -23,8 +23,6 @@ mod number_writer;
 mod numbers;
 mod objects;
 mod places;
-#[cfg(test)]
-mod tests;
 mod text_writer;
 mod texts;
 mod times;

@@ -9,6 +9,3 @@ mod unsigned;
 pub use fault::LebFault;
 pub use signed::{one_signed_spelling, push_i, read_i};
 pub use unsigned::{completed, one_spelling, push_u, read_u};
-
-#[cfg(test)]
-mod tests;

@@ -32,6 +32,3 @@ pub use sure_folder::SureFolder;
 pub use sure_sink::SureSink;
 pub use sure_source::SureSource;
 pub use write_sink::WriteSink;
-
-#[cfg(test)]
-mod tests;

@@ -16,8 +16,6 @@ mod signed;
 mod skim;
 mod skipping;
 mod taking;
-#[cfg(test)]
-mod tests;
 mod text;
 mod unsigned;
 mod value;

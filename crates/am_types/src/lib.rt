@@ -9,14 +9,10 @@ mod document;
 mod hash;
 mod ids;
 mod known;
-#[cfg(test)]
-mod lent_tests;
 mod list;
 mod owned;
 mod refs;
 mod sharing;
-#[cfg(test)]
-mod tests;
 mod text;
 mod twin;
 mod value;

@@ -2,7 +2,7 @@ use Rattle.std.proofs.Common.{arith, pos}
 use Rattle.std.proofs.lemmas.Int.{ints}
 use Rattle.am_delta.specs.Deltas.{IsMiddling}
 use Rattle.am_delta.proofs.Steps.{between_middling}
-use Rattle.am_delta.proofs.tests.taken.Goals as goal
+use Rattle.am_column_tests.proofs.delta.taken.Goals as goal
 
 pub take-requires-clause-values : goal.take-requires-clause-values
 take-requires-clause-values g c =

@@ -1,5 +1,5 @@
 //! Tests of borrowed forms: they are compared, and copied back.
-use crate::{
+use am_types::{
     ActorFault, ActorId, IdRef, KeyRef, ObjId, ObjRef, OpId, SharedActors, ValueRef,
     compare_objects, same_id, same_key, same_object,
 };

@@ -1,5 +1,8 @@
 //! Each call once: what is built, lent, compared and copied is what was put in.
-use crate::*;
+use am_types::{
+    ActorFault, ActorId, Bytes, Change, Document, Entry, Hash, IdRef, Key, KeyRef, List, Meta,
+    ObjId, ObjRef, Op, OpId, RawValue, Row, Table, Text, Twin, compare_ids,
+};
 use std::alloc::{AllocError, Global};
 use std::cmp::Ordering;
 use std::test::Fail;
@@ -152,31 +155,31 @@ fn ids_go_by_counter_then_actor(rt: HostRuntime) {
 fn copies_equal_what_they_copy(rt: HostRuntime) -> Result<(), Fail> {
     let alloc = rt.alloc();
     let change = change(alloc)?;
-    assert_eq!(rt; change.copy(alloc)?, change);
+    assert!(rt; change.copy(alloc)? == change);
     let table = table(alloc)?;
-    assert_eq!(rt; table.copy(alloc)?, table);
+    assert!(rt; table.copy(alloc)? == table);
     let document = document(alloc)?;
-    assert_eq!(rt; document.copy(alloc)?, document);
+    assert!(rt; document.copy(alloc)? == document);
     Ok(())
 }
 
 #[test]
 fn lends_what_it_has(rt: HostRuntime) -> Result<(), Fail> {
     let document = document(rt.alloc())?;
-    assert_eq!(rt; document.entries.len(), 1);
+    assert!(rt; document.entries.len() == 1);
     for i in 0..document.entries.len() {
         let entry = document.entry(i);
         match (entry.obj, entry.slot) {
             (ObjRef::Made(obj), KeyRef::Elem(slot)) => {
-                assert_eq!(rt; obj.counter, 1);
-                assert_eq!(rt; obj.actor, b"\xaa".as_slice());
-                assert_eq!(rt; slot.counter, 2);
+                assert!(rt; obj.counter == 1);
+                assert!(rt; obj.actor == b"\xaa".as_slice());
+                assert!(rt; slot.counter == 2);
             }
             _ => assert!(rt; false, "another place"),
         }
-        assert_eq!(rt; entry.id.counter, 3);
-        assert_eq!(rt; (entry.action, entry.value.kind, entry.total), (1, 8, 10));
-        assert_eq!(rt; entry.value.raw, b"\x0a".as_slice());
+        assert!(rt; entry.id.counter == 3);
+        assert!(rt; (entry.action, entry.value.kind, entry.total) == (1, 8, 10));
+        assert!(rt; entry.value.raw == b"\x0a".as_slice());
     }
     Ok(())
 }
@@ -185,11 +188,11 @@ fn lends_what_it_has(rt: HostRuntime) -> Result<(), Fail> {
 fn takes_over_what_is_owned(rt: HostRuntime) -> Result<(), Fail> {
     let alloc = rt.alloc();
     let numbers = List::from(vec![in alloc; 1u64, 2, 3]?);
-    assert_eq!(rt; numbers.len(), 3);
+    assert!(rt; numbers.len() == 3);
     let three = Bytes::from(vec![in alloc; 1u8, 2, 3]?);
-    assert_eq!(rt; three, bytes(alloc, &[1, 2, 3])?);
+    assert!(rt; three == bytes(alloc, &[1, 2, 3])?);
     let word = Text::from(format!(in alloc; "{}", "word")?);
-    assert_eq!(rt; word, text(alloc, "word")?);
-    assert_eq!(rt; (three.len(), word.len()), (3, 4));
+    assert!(rt; word == text(alloc, "word")?);
+    assert!(rt; (three.len(), word.len()) == (3, 4));
     Ok(())
 }

@@ -1,5 +1,5 @@
 //! Outside values for column metadata: a whole change's columns, refusals in their order, lists of actors.
-use crate::*;
+use am_colmeta::{ActorList, ColumnFault, ColumnList, ColumnWriter, Columns};
 use std::alloc::AllocError;
 
 // The metadata and the columns of a change that sets one key, with one more column of numbers.
@@ -50,11 +50,8 @@ fn refuses_in_order(rt: HostRuntime) {
         (&[0x01, 0x15, 0x01], &[0x00], None),
     ];
     for (metadata, body, want) in rows {
-        let Ok((list, size)) = ColumnList::read(metadata) else {
-            assert!(rt; false, "the metadata can be read");
-            return;
-        };
-        assert_eq!(rt; size, metadata.len());
+        let (list, size) = ColumnList::read(metadata).expect(&rt, "the metadata can be read");
+        assert!(rt; size == metadata.len());
         match Columns::over(list, body, &[21]) {
             Ok(_) => assert!(rt; want.is_none(), "the columns are refused"),
             Err(fault) => assert!(rt; want == Some(fault), "another fault is told"),
@@ -64,21 +61,22 @@ fn refuses_in_order(rt: HostRuntime) {
 
 #[test]
 fn reads_the_columns_of_a_change(rt: HostRuntime) {
-    let Ok((list, size)) = ColumnList::read(&METADATA) else {
-        assert!(rt; false, "the metadata can be read");
-        return;
-    };
-    assert_eq!(rt; size, 16);
+    let (list, size) = ColumnList::read(&METADATA).expect(&rt, "the metadata can be read");
+    assert!(rt; size == 16);
     assert!(rt; !list.compressed());
     assert!(rt; list.total() == 13);
-    let Ok(columns) = Columns::over(list.again(), &BODY, &KNOWN) else {
-        assert!(rt; false, "the columns fill the body");
-        return;
-    };
+    let columns = Columns::over(list.again(), &BODY, &KNOWN).expect(
+        &rt,
+        "the columns fill the body",
+    );
     assert!(rt; columns.find(0x15) == &[0x7f, 0x01, 0x61][..]);
     assert!(rt; columns.again().find(0x57) == &[0x01][..]);
     assert!(rt; columns.find(0xb2) == &[0x7f, 0x05][..]);
     assert!(rt; columns.find(0x25).is_empty());
+}
+
+#[test]
+fn refuses_metadata_that_are_cut_off(rt: HostRuntime) {
     assert!(rt; ColumnList::read(&METADATA[..15]).is_err());
     assert!(rt; ColumnList::read(&[]).is_err());
 }
@@ -104,12 +102,9 @@ fn writes_the_columns_of_a_change(rt: HostRuntime) -> Result<(), AllocError> {
 #[test]
 fn reads_a_list_of_actors(rt: HostRuntime) {
     let bytes: [u8; 7] = [0x02, 0x01, 0xaa, 0x02, 0xbb, 0xcc, 0xff];
-    let Ok((actors, size)) = ActorList::read(&bytes) else {
-        assert!(rt; false, "the actors can be read");
-        return;
-    };
-    assert_eq!(rt; size, 6);
-    assert_eq!(rt; actors.count(), 2);
+    let (actors, size) = ActorList::read(&bytes).expect(&rt, "the actors can be read");
+    assert!(rt; size == 6);
+    assert!(rt; actors.count() == 2);
     assert!(rt; actors.get(0) == Some(&[0xaa][..]));
     assert!(rt; actors.again().get(1) == Some(&[0xbb, 0xcc][..]));
     assert!(rt; actors.get(2).is_none());

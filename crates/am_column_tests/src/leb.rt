@@ -1,5 +1,5 @@
 //! Spellings that the standards give as examples, and refusals of bytes that spell nothing in the shortest way.
-use crate::{LebFault, push_i, push_u, read_i, read_u};
+use am_leb::{LebFault, push_i, push_u, read_i, read_u};
 use std::test::Fail;
 
 #[test]

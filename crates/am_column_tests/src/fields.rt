@@ -1,0 +1,179 @@
+//! Outside values: the columns of the change that makes the text `ab`, part by part, and what each part refuses.
+use am_colmeta::ActorList;
+use am_fields::{
+    ActionColumn, Actors, DeltaColumn, FlagColumn, GREATEST_COUNTER, GroupColumns, IdColumns,
+    IdCursor, KeyColumns, NumberColumn, NumberWriter, ObjectColumns, TextColumn, TextWriter,
+    ValueColumns, is_given,
+};
+use am_flags::FlagWriter;
+use am_types::{KeyRef, ObjRef};
+use std::alloc::AllocError;
+use std::process::Abort;
+
+const ACTOR: [u8; 1] = [0xaa];
+
+// The actors of a change: its author, and those of a list.
+fn actors_of<'a>(rt: &impl Abort, others: &'a [u8]) -> Actors<'a> {
+    let (others, _) = ActorList::read(others).expect(rt, "a list of actors");
+    Actors::of_change(&ACTOR, others)
+}
+
+#[test]
+fn reads_numbers(rt: HostRuntime) {
+    let mut numbers = NumberColumn::over(&[0x02, 0x07], 2).expect(&rt, "two numbers");
+    assert!(rt; numbers.next() == Some(7));
+    assert!(rt; numbers.again().left() == 1);
+    assert!(rt; NumberColumn::over(&[0x02, 0x07], 3).is_err());
+    let mut nulls = NumberColumn::over(&[], 3).expect(&rt, "a column may be left out");
+    nulls.skip(2);
+    assert!(rt; nulls.next().is_none());
+}
+
+#[test]
+fn reads_deltas(rt: HostRuntime) {
+    let mut deltas = DeltaColumn::over(&[0x02, 0x01], 2, 0, GREATEST_COUNTER).expect(
+        &rt,
+        "two deltas",
+    );
+    deltas.skip(1);
+    assert!(rt; deltas.next() == Some(2));
+    assert!(rt; DeltaColumn::over(&[0x7f, 0x7f], 1, 0, GREATEST_COUNTER).is_err());
+}
+
+#[test]
+fn reads_texts(rt: HostRuntime) {
+    let mut texts = TextColumn::over(&[0x7f, 0x01, 0x61], 1).expect(&rt, "a text");
+    assert!(rt; texts.again().left() == 1 && texts.next() == Some("a"));
+}
+
+#[test]
+fn reads_flags(rt: HostRuntime) {
+    let mut flags = FlagColumn::over(&[0x01, 0x01], 2).expect(&rt, "two flags");
+    assert!(rt; !flags.next() && flags.next());
+    assert!(rt; FlagColumn::over(&[0x00], 1).is_err());
+}
+
+#[test]
+fn reads_objects(rt: HostRuntime) {
+    let (others, _) = ActorList::read(&[0x00]).expect(&rt, "no actors");
+    let actors = Actors::of_change(&ACTOR, others.again());
+    let places: [u8; 4] = [0x00, 0x01, 0x02, 0x00];
+    let counters: [u8; 4] = [0x00, 0x01, 0x02, 0x01];
+    let mut objects = ObjectColumns::over(&places, &counters, &actors, 3).expect(
+        &rt,
+        "three objects",
+    );
+    assert!(rt; matches!(objects.next(), ObjRef::Root));
+    match objects.again().next() {
+        ObjRef::Made(id) => assert!(rt; id.counter == 1 && id.actor == &ACTOR[..]),
+        ObjRef::Root => assert!(rt; false, "an object that was made"),
+    }
+    let bare = Actors::of_document(others);
+    assert!(rt; ObjectColumns::over(&places, &counters, &bare.again(), 3).is_err());
+}
+
+#[test]
+fn reads_keys(rt: HostRuntime) {
+    let actors = actors_of(&rt, &[0x00]);
+    let places: [u8; 4] = [0x00, 0x02, 0x7f, 0x00];
+    let counters: [u8; 5] = [0x00, 0x01, 0x7e, 0x00, 0x02];
+    let names: [u8; 5] = [0x7f, 0x01, 0x74, 0x00, 0x02];
+    let mut keys = KeyColumns::over(&places, &counters, &names, &actors, 3).expect(
+        &rt,
+        "three keys",
+    );
+    assert!(rt; matches!(keys.next(), KeyRef::Name("t")));
+    assert!(rt; matches!(keys.next(), KeyRef::Head));
+    assert!(rt; matches!(keys.again().next(), KeyRef::Elem(_)));
+    assert!(rt; KeyColumns::over(&places, &[], &names, &actors, 3).is_err());
+}
+
+#[test]
+fn reads_actions(rt: HostRuntime) {
+    let mut actions = ActionColumn::over(&[0x7f, 0x04, 0x02, 0x01]).expect(&rt, "three actions");
+    assert!(rt; actions.again().left() == 3);
+    assert!(rt; actions.next() == 4);
+    assert!(rt; ActionColumn::over(&[0x7f, 0x08]).is_err());
+}
+
+#[test]
+fn reads_values(rt: HostRuntime) {
+    let mut values = ValueColumns::over(&[0x7f, 0x00, 0x02, 0x16], &[0x61, 0x62], 3).expect(
+        &rt,
+        "three values",
+    );
+    assert!(rt; values.next().kind == 0);
+    assert!(rt; values.again().next().raw == &[0x61][..]);
+    let mut null = ValueColumns::over(&[0x00, 0x01], &[], 1).expect(&rt, "a null");
+    assert!(rt; null.next().kind == 0);
+    assert!(rt; ValueColumns::over(&[], &[], 3).is_ok());
+    assert!(rt; ValueColumns::over(&[], &[0x61], 3).is_err());
+}
+
+#[test]
+fn reads_ids(rt: HostRuntime) {
+    let actors = actors_of(&rt, &[0x01, 0x01, 0xbb]);
+    let mut ids = IdColumns::over(&[0x7e, 0x00, 0x01], &[0x02, 0x01], &actors, 2).expect(
+        &rt, "two ids",
+    );
+    ids.skip(1);
+    assert!(rt;
+        ids.left() == 1 && ids.again().next().counter == 2 && ids.next().actor == &[0xbb][..]
+    );
+}
+
+#[test]
+fn reads_groups(rt: HostRuntime) {
+    let actors = actors_of(&rt, &[0x01, 0x01, 0xbb]);
+    let group: [u8; 3] = [0x7e, 0x00, 0x02];
+    let mut groups = GroupColumns::over(
+        &group,
+        &[0x7e, 0x00, 0x01],
+        &[0x02, 0x01],
+        &actors,
+        2,
+    ).expect(&rt, "two groups");
+    assert!(rt; groups.next().next().is_none());
+    let mut last = groups.again().next();
+    assert!(rt; last.again().next().is_some() && last.next().is_some() && last.next().is_some());
+    assert!(rt; last.next().is_none());
+}
+
+#[test]
+fn reads_groups_of_none(rt: HostRuntime) {
+    let actors = actors_of(&rt, &[0x01, 0x01, 0xbb]);
+    assert!(rt; GroupColumns::over(&[0x00, 0x01], &[], &[], &actors, 1).is_ok());
+    assert!(rt; GroupColumns::over(&[], &[], &[], &actors, 1).is_ok());
+    assert!(rt;
+        is_given(&[0x7e, 0x00, 0x02], 2) && !is_given(&[0x00, 0x01], 1) && !is_given(&[], 1)
+    );
+    assert!(rt; IdCursor::none().next().is_none());
+}
+
+#[test]
+fn writes_numbers(rt: HostRuntime) -> Result<(), AllocError> {
+    let mut numbers = NumberWriter::new(rt.alloc());
+    numbers.push(Some(1))?;
+    numbers.push(Some(1))?;
+    numbers.push(None)?;
+    assert!(rt; numbers.finish()?.as_slice() == &[0x02, 0x01, 0x00, 0x01][..]);
+    Ok(())
+}
+
+#[test]
+fn writes_texts(rt: HostRuntime) -> Result<(), AllocError> {
+    let mut texts = TextWriter::new(rt.alloc());
+    texts.push(Some("a"))?;
+    assert!(rt; texts.finish()?.as_slice() == &[0x7f, 0x01, 0x61][..]);
+    Ok(())
+}
+
+#[test]
+fn takes_flags(rt: HostRuntime) -> Result<(), AllocError> {
+    let mut from = FlagColumn::over(&[0x01, 0x02], 3).expect(&rt, "three flags");
+    let mut flags = FlagWriter::new(rt.alloc());
+    from.copy_to(&mut flags, 2)?;
+    assert!(rt; from.left() == 1);
+    assert!(rt; flags.finish_plain()?.as_slice() == &[0x01, 0x01][..]);
+    Ok(())
+}

@@ -1,0 +1,114 @@
+//! What no clause says: that the calls succeed, and that the real versions pass on what they are given.
+use am_outside::{
+    Failed, FetchFault, Folder, HostFolder, MemoryFolder, MemorySink, MemorySource, ReadSource,
+    Sink, Source, SureFolder, SureSink, SureSource, WriteFault, WriteSink,
+};
+use std::collections::VecDeque;
+use std::test::Fail;
+use std::time::SystemTime;
+use std::{env, fs};
+
+#[test]
+fn memory_source_gives_pieces(rt: HostRuntime) -> Result<(), Fail> {
+    let alloc = rt.alloc();
+    let mut source = MemorySource::new(b"hello".to_vec(alloc)?, 3, vec![in alloc; 1]?);
+    let mut buffer = [0u8; 8];
+    for want in [Ok(3), Err(Failed), Ok(2)] {
+        assert_eq!(rt; source.read(&mut buffer), want);
+    }
+    assert!(rt; buffer[0] == b'l');
+    assert!(rt; source.read(&mut buffer) == Ok(0));
+    Ok(())
+}
+
+#[test]
+fn memory_sink_takes_pieces(rt: HostRuntime) -> Result<(), Fail> {
+    let alloc = rt.alloc();
+    let mut sink = MemorySink::new(alloc, vec![in alloc; 1]?);
+    assert!(rt; sink.write(b"one") == Ok(3));
+    assert!(rt; sink.write(b"two") == Err(WriteFault::Failed));
+    assert!(rt; sink.bytes() == b"one".as_slice());
+    Ok(())
+}
+
+#[test]
+fn memory_folder_keeps_files(rt: HostRuntime) -> Result<(), Fail> {
+    let alloc = rt.alloc();
+    let mut folder = MemoryFolder::new(alloc, vec![in alloc; 3]?);
+    folder.put_file("a", b"one")?;
+    assert!(rt; folder.keep("a", b"two") == Ok(()));
+    assert!(rt; folder.file("a") == Some(b"two".as_slice()));
+    assert!(rt; folder.fetch(alloc, "a")?.as_slice() == b"two".as_slice());
+    assert!(rt; matches!(folder.fetch(alloc, "b"), Err(FetchFault::Absent)));
+    assert!(rt; folder.keep("a", b"three") == Err(WriteFault::Failed));
+    assert!(rt; folder.file("a") == None);
+    Ok(())
+}
+
+#[test]
+fn sure_source_does_not_fail(rt: HostRuntime) -> Result<(), Fail> {
+    let mut source = SureSource::new(b"hello".to_vec(rt.alloc())?);
+    let mut buffer = [0u8; 4];
+    assert!(rt; source.read(&mut buffer) == Ok(4));
+    assert!(rt; buffer == *b"hell");
+    assert!(rt; source.read(&mut buffer) == Ok(1));
+    assert!(rt; source.read(&mut buffer) == Ok(0));
+    Ok(())
+}
+
+#[test]
+fn sure_sink_does_not_fail(rt: HostRuntime) {
+    let mut sink = SureSink::new(rt.alloc());
+    assert!(rt; sink.write(b"one") == Ok(3));
+    assert!(rt; sink.write(b"two") == Ok(3));
+    assert!(rt; sink.bytes() == b"onetwo".as_slice());
+}
+
+#[test]
+fn sure_folder_does_not_fail(rt: HostRuntime) -> Result<(), Fail> {
+    let alloc = rt.alloc();
+    let mut folder = SureFolder::new(alloc);
+    folder.put_file("a", b"one")?;
+    assert!(rt; folder.keep("a", b"two") == Ok(()));
+    assert!(rt; folder.file("a") == Some(b"two".as_slice()));
+    assert!(rt; folder.fetch(alloc, "a")?.as_slice() == b"two".as_slice());
+    assert!(rt; matches!(folder.fetch(alloc, "b"), Err(FetchFault::Absent)));
+    Ok(())
+}
+
+#[test]
+fn read_source_passes_bytes_on(rt: HostRuntime) {
+    let mut reader = b"hello".as_slice();
+    let mut source = ReadSource::new(&mut reader);
+    let mut buffer = [0u8; 4];
+    assert!(rt; source.read(&mut buffer) == Ok(4));
+    assert!(rt; buffer == *b"hell");
+    assert!(rt; source.read(&mut buffer) == Ok(1));
+    assert!(rt; source.read(&mut buffer) == Ok(0));
+}
+
+#[test]
+fn write_sink_passes_bytes_on(rt: HostRuntime) {
+    let mut written = VecDeque::new(rt.alloc());
+    let mut sink = WriteSink::new(&mut written);
+    assert!(rt; sink.write(b"hello") == Ok(5));
+    assert!(rt; written.len() == 5);
+    assert!(rt; written.pop_front() == Some(b'h'));
+}
+
+#[test]
+fn host_folder_keeps_files(rt: HostRuntime) -> Result<(), Fail> {
+    let alloc = rt.alloc();
+    // A name that no test run beside this one has.
+    let now = SystemTime::now(&rt)?
+        .duration_since(SystemTime::UNIX_EPOCH)?
+        .as_nanos();
+    let name = format!(in alloc; "amstore-host-folder-{now}")?;
+    let path = env::temp_dir(&rt)?.join(alloc, name.as_str())?;
+    let mut folder = HostFolder::new(&rt);
+    assert!(rt; folder.keep(path.as_str(), b"hello") == Ok(()));
+    assert!(rt; folder.fetch(alloc, path.as_str())?.as_slice() == b"hello".as_slice());
+    fs::remove_file(&rt, path.as_str())?;
+    assert!(rt; matches!(folder.fetch(alloc, path.as_str()), Err(FetchFault::Absent)));
+    Ok(())
+}

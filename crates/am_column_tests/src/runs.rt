@@ -1,0 +1,254 @@
+//! Lists with their spellings, from worked examples of the format.
+use am_runs::{
+    Item, RunCursor, RunWriter, SignedCursor, SignedItem, TextCursor, TextItem, UnsignedCursor,
+    UnsignedItem, is_canonical,
+};
+use std::alloc::AllocError;
+
+#[test]
+fn written(rt: HostRuntime) -> Result<(), AllocError> {
+    let mut writer = RunWriter::<UnsignedItem>::new(rt.alloc());
+    writer.push(None)?;
+    writer.push(None)?;
+    assert!(rt; writer.finish()?.as_slice().is_empty());
+    Ok(())
+}
+
+#[test]
+fn written_numbers(rt: HostRuntime) -> Result<(), AllocError> {
+    let mut writer = RunWriter::<UnsignedItem>::new(rt.alloc());
+    assert!(rt; UnsignedItem::end(&[1]) == Some(1));
+    writer.push(Some(&[1]))?;
+    assert!(rt; UnsignedItem::end(&[2]) == Some(1));
+    writer.push(Some(&[2]))?;
+    assert!(rt; UnsignedItem::end(&[3]) == Some(1));
+    writer.push(Some(&[3]))?;
+    assert!(rt; writer.finish()?.as_slice() == &[0x7d, 1, 2, 3][..]);
+    Ok(())
+}
+
+#[test]
+fn taken(rt: HostRuntime) -> Result<(), AllocError> {
+    let mut writer = RunWriter::<UnsignedItem>::new(rt.alloc());
+    let bytes = [3, 5, 0, 2, 2, 0xac, 2, 0x7f, 1];
+    if let Ok(mut from) = RunCursor::<UnsignedItem>::over(&bytes, 8) {
+        if from.left() >= 6 {
+            writer.take(&mut from, 6)?;
+        }
+    }
+    assert!(rt; writer.finish()?.as_slice() == &[3, 5, 0, 2, 0x7f, 0xac, 2][..]);
+    Ok(())
+}
+
+#[test]
+fn numbers_alike(rt: HostRuntime) {
+    let mut numbers = UnsignedCursor::over(&[3, 5, 0x7f, 1], 4).expect(
+        &rt,
+        "the numbers can be read",
+    );
+    assert!(rt; numbers.next() == Some(Some(5)));
+    for want in [Some((Some(5), 2)), Some((Some(1), 1)), None] {
+        assert_eq!(rt; numbers.next_alike_within(4), want);
+    }
+}
+
+#[test]
+fn texts_alike(rt: HostRuntime) {
+    let mut texts = TextCursor::over(&[3, 1, 0x61], 3).expect(&rt, "the texts can be read");
+    assert!(rt; texts.next() == Some(Some("a")));
+    assert!(rt; texts.next_alike_within(1) == Some((Some("a"), 1)));
+    assert!(rt; texts.left() == 1);
+}
+
+#[test]
+fn judged(rt: HostRuntime) {
+    // spellings, the most entries, whether they are canonical, and whether they can be read
+    let table: [(&[&[u8]], u64, bool, bool); 3] = [
+        (
+            &[
+                &[],
+                &[0x7d, 1, 2, 3],
+                &[2, 1, 0x7f, 2],
+                &[0, 1, 0x7f, 3],
+                &[0x7f, 3, 0, 1],
+                &[3, 5, 0, 2, 2, 0xac, 2, 0x7f, 1],
+                &[0x7f, 1, 3, 2, 0x7e, 3, 4],
+            ],
+            8,
+            true,
+            true,
+        ),
+        (
+            &[
+                &[0x7d, 1, 1, 2],
+                &[1, 1],
+                &[0x7f, 1, 0x7f, 2],
+                &[0, 1, 0, 1, 0x7f, 3],
+                &[0, 2],
+                &[2, 1, 0x7f, 1],
+                &[2, 1, 2, 1],
+            ],
+            8,
+            false,
+            true,
+        ),
+        (
+            &[
+                &[0, 0],
+                &[0, 0x80, 0],
+                &[2],
+                &[0x7e, 1],
+                &[0x82, 0, 1],
+                &[2, 0x81, 0],
+            ],
+            1000,
+            false,
+            false,
+        ),
+    ];
+    for (spellings, most, canonical, readable) in table {
+        for bytes in spellings {
+            let judged = (
+                is_canonical::<UnsignedItem>(bytes, most),
+                UnsignedCursor::over(bytes, most).is_ok(),
+            );
+            assert_eq!(rt; judged, (canonical, readable), "of {bytes:?}");
+        }
+    }
+}
+
+#[test]
+fn judged_of_other_items(rt: HostRuntime) {
+    assert!(rt; is_canonical::<SignedItem>(&[2, 0x7f, 0x7e, 0xc0, 0, 0xbf, 0x7f, 0, 1], 5));
+    assert!(rt; is_canonical::<TextItem>(&[0x7f, 2, 0xc3, 0xa9, 0, 1, 0x7f, 0], 3));
+    assert!(rt; TextCursor::over(&[0x7f, 1, 0xc3], 1).is_err());
+}
+
+#[test]
+fn read_many_nulls(rt: HostRuntime) {
+    let bytes = [0u8, 0xff, 0xff, 0xff, 0xff, 0x0f, 0x7f, 3];
+    let mut cursor = UnsignedCursor::over(&bytes, 1 << 32).expect(&rt, "many nulls can be read");
+    assert!(rt; cursor.left() == 1 << 32);
+    assert!(rt; cursor.like() == Some((None, (1 << 32) - 1)));
+    cursor.skip((1 << 32) - 1);
+    assert!(rt; cursor.again().next() == Some(Some(3)));
+    cursor.skip(9);
+    assert!(rt; cursor.next() == None);
+}
+
+#[test]
+fn read_items(rt: HostRuntime) {
+    let mut items = RunCursor::<UnsignedItem>::over(&[2, 0xac, 2], 2).expect(
+        &rt,
+        "the items can be read",
+    );
+    assert!(rt; items.next() == Some(Some(&[0xac, 2][..])));
+    assert!(rt; items.like() == Some((Some(&[0xac, 2][..]), 1)));
+    items.skip(1);
+    assert!(rt; items.left() == 0);
+    assert!(rt; items.again().next() == None);
+}
+
+#[test]
+fn read_numbers(rt: HostRuntime) {
+    let mut numbers = SignedCursor::over(&[2, 0x7f, 0x7e, 0xc0, 0, 0xbf, 0x7f], 4).expect(
+        &rt,
+        "the numbers can be read",
+    );
+    assert!(rt; numbers.like() == Some((Some(-1), 2)));
+    assert!(rt; numbers.next() == Some(Some(-1)));
+    assert!(rt; numbers.left() == 3);
+    numbers.skip(1);
+    assert!(rt; numbers.again().next() == Some(Some(64)));
+}
+
+#[test]
+fn read_words(rt: HostRuntime) {
+    let mut words = TextCursor::over(&[0x7f, 2, 0xc3, 0xa9, 0, 1, 0x7f, 0], 3).expect(
+        &rt,
+        "the texts can be read",
+    );
+    assert!(rt; words.left() == 3);
+    assert!(rt; words.again().next() == Some(Some("é")));
+    words.skip(1);
+    assert!(rt; words.next() == Some(None));
+    assert!(rt; words.next() == Some(Some("")));
+}
+
+#[test]
+fn repeated_numbers(rt: HostRuntime) {
+    let mut numbers = UnsignedCursor::over(&[3, 5, 0x7e, 7, 0x80, 1, 0, 2], 7).expect(
+        &rt,
+        "the numbers can be read",
+    );
+    assert!(rt; numbers.next() == Some(Some(5)));
+    assert!(rt; numbers.left() == 6);
+    assert!(rt; numbers.like() == Some((Some(5), 2)));
+    numbers.skip(2);
+    assert!(rt; numbers.next() == Some(Some(7)));
+    assert!(rt; numbers.like() == Some((Some(128), 1)));
+    assert!(rt; numbers.next() == Some(Some(128)));
+    assert!(rt; numbers.again().next() == Some(None));
+    numbers.skip(1);
+    assert!(rt; numbers.next() == Some(None));
+    assert!(rt; numbers.next() == None);
+}
+
+#[test]
+fn repeated_words(rt: HostRuntime) {
+    let mut words = TextCursor::over(&[3, 1, 0x61, 0, 1], 4).expect(&rt, "the texts can be read");
+    assert!(rt; words.next() == Some(Some("a")));
+    assert!(rt; words.left() == 3);
+    assert!(rt; words.again().next() == Some(Some("a")));
+    words.skip(2);
+    assert!(rt; words.next() == Some(None));
+    assert!(rt; words.next() == None);
+}
+
+#[test]
+fn skimmed(rt: HostRuntime) {
+    // a literal run, and whether it has as many numbers as it says: unsigned ones, signed ones
+    let table: [(&[u8], bool, bool); 12] = [
+        (&[0x7e, 0x80, 1, 1], true, true),
+        (&[0x7e, 1, 0x80, 0], false, false),
+        (&[0x7e, 0xc0, 0, 5], false, true),
+        (&[0x7e, 0xbf, 0x7f, 5], true, true),
+        (&[0x7e, 0xff, 0x7f, 5], true, false),
+        (
+            &[0x7f, 0x80, 0x80, 0x80, 0x80, 0x80, 0x80, 0x80, 0x80, 1],
+            true,
+            true,
+        ),
+        (
+            &[
+                0x7f, 0x80, 0x80, 0x80, 0x80, 0x80, 0x80, 0x80, 0x80, 0x80, 1,
+            ],
+            true,
+            false,
+        ),
+        (
+            &[
+                0x7f, 0x80, 0x80, 0x80, 0x80, 0x80, 0x80, 0x80, 0x80, 0x80, 0x7f,
+            ],
+            false,
+            true,
+        ),
+        (
+            &[
+                0x7f, 0x80, 0x80, 0x80, 0x80, 0x80, 0x80, 0x80, 0x80, 0x80, 0x80, 1,
+            ],
+            false,
+            false,
+        ),
+        (&[0x7e, 0x80, 1], false, false),
+        (&[0x7d, 5, 0x80, 1], false, false),
+        (&[0x7d, 1, 2], false, false),
+    ];
+    for (bytes, unsigned, signed) in table {
+        let judged = (
+            UnsignedCursor::over(bytes, 3).is_ok(),
+            SignedCursor::over(bytes, 3).is_ok(),
+        );
+        assert_eq!(rt; judged, (unsigned, signed), "of {bytes:?}");
+    }
+}
