@@ -15,7 +15,7 @@ const KNOWN: [u64; 7] = [0x15, 0x34, 0x42, 0x56, 0x57, 0x70, 0xb2];
 
 #[test]
 fn refuses_in_order(rt: HostRuntime) {
-    let rows: [(&[u8], &[u8], Option<ColumnFault>); 8] = [
+    let rows: &[(&[u8], &[u8], Option<ColumnFault>)] = &[
         (
             &[0x01, 0x1d, 0x00],
             &[],
@@ -49,7 +49,7 @@ fn refuses_in_order(rt: HostRuntime) {
         ),
         (&[0x01, 0x15, 0x01], &[0x00], None),
     ];
-    for (metadata, body, want) in rows {
+    for &(metadata, body, want) in rows {
         let (list, size) = ColumnList::read(metadata).expect(&rt, "the metadata can be read");
         assert!(rt; size == metadata.len());
         match Columns::over(list, body, &[21]) {

@@ -41,7 +41,7 @@ fn taken(rt: HostRuntime) -> Result<(), AllocError> {
 
 #[test]
 fn refused(rt: HostRuntime) {
-    let bad: [(&[u8], u64); 5] = [
+    let bad: &[(&[u8], u64)] = &[
         (&[1, 0], 100),
         (&[0, 2, 0], 100),
         (&[0x80, 0], 100),
@@ -49,7 +49,7 @@ fn refused(rt: HostRuntime) {
         // one flag too many
         (&[0, 2, 1], 2),
     ];
-    for (bytes, most) in bad {
+    for &(bytes, most) in bad {
         assert!(rt; FlagCursor::over(bytes, most).is_err(), "of {bytes:?}");
     }
 }
@@ -74,7 +74,7 @@ fn read_many(rt: HostRuntime) {
 
 #[test]
 fn judged(rt: HostRuntime) {
-    let plain: [(&[u8], bool); 8] = [
+    let plain: &[(&[u8], bool)] = &[
         (&[], true),
         (&[0, 2, 1], true),
         (&[3], true),
@@ -84,10 +84,10 @@ fn judged(rt: HostRuntime) {
         (&[0, 2, 2], false),
         (&[0x80, 0], false),
     ];
-    for (bytes, canonical) in plain {
+    for &(bytes, canonical) in plain {
         assert!(rt; is_canonical(bytes, 3) == canonical, "of {bytes:?}");
     }
-    let maybe: [(&[u8], u64, bool); 7] = [
+    let maybe: &[(&[u8], u64, bool)] = &[
         (&[], 0, true),
         (&[0, 2, 1], 3, true),
         (&[3], 3, false),
@@ -96,7 +96,7 @@ fn judged(rt: HostRuntime) {
         (&[0, 2, 2], 3, false),
         (&[0x80, 0], 3, false),
     ];
-    for (bytes, most, canonical) in maybe {
+    for &(bytes, most, canonical) in maybe {
         assert!(rt;
             is_canonical_maybe(bytes, most) == canonical,
             "of {bytes:?}"

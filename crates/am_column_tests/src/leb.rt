@@ -4,7 +4,7 @@ use std::test::Fail;
 
 #[test]
 fn spells_unsigned_numbers(rt: HostRuntime) -> Result<(), Fail> {
-    let table: [(u64, &[u8]); 14] = [
+    let table: &[(u64, &[u8])] = &[
         (0, &[0x00]),
         (2, &[0x02]),
         (127, &[0x7f]),
@@ -30,7 +30,7 @@ fn spells_unsigned_numbers(rt: HostRuntime) -> Result<(), Fail> {
             &[0xff, 0xff, 0xff, 0xff, 0xff, 0xff, 0xff, 0xff, 0xff, 0x01],
         ),
     ];
-    for (number, spelling) in table {
+    for &(number, spelling) in table {
         let mut out = Vec::new(rt.alloc());
         push_u(&mut out, number)?;
         assert_eq!(rt; out.as_slice(), spelling, "at {number}");
@@ -42,7 +42,7 @@ fn spells_unsigned_numbers(rt: HostRuntime) -> Result<(), Fail> {
 
 #[test]
 fn spells_signed_numbers(rt: HostRuntime) -> Result<(), Fail> {
-    let table: [(i64, &[u8]); 23] = [
+    let table: &[(i64, &[u8])] = &[
         (2, &[0x02]),
         (-2, &[0x7e]),
         (63, &[0x3f]),
@@ -86,7 +86,7 @@ fn spells_signed_numbers(rt: HostRuntime) -> Result<(), Fail> {
             &[0x80, 0x80, 0x80, 0x80, 0x80, 0x80, 0x80, 0x80, 0x80, 0x7f],
         ),
     ];
-    for (number, spelling) in table {
+    for &(number, spelling) in table {
         let mut out = Vec::new(rt.alloc());
         push_i(&mut out, number)?;
         assert_eq!(rt; out.as_slice(), spelling, "at {number}");
@@ -99,17 +99,17 @@ fn spells_signed_numbers(rt: HostRuntime) -> Result<(), Fail> {
 #[test]
 fn refuses_one_byte_too_many(rt: HostRuntime) {
     // 0, 63, 127 and 16383 as unsigned
-    let unsigned: [&[u8]; 4] = [
+    let unsigned: &[&[u8]] = &[
         &[0x80, 0x00],
         &[0xbf, 0x00],
         &[0xff, 0x00],
         &[0xff, 0xff, 0x00],
     ];
-    for bytes in unsigned {
+    for &bytes in unsigned {
         assert_eq!(rt; read_u(bytes), Err(LebFault::Long));
     }
     // 0, 63, -1, -64, 8191 and -8192
-    let signed: [&[u8]; 6] = [
+    let signed: &[&[u8]] = &[
         &[0x80, 0x00],
         &[0xbf, 0x00],
         &[0xff, 0x7f],
@@ -117,14 +117,14 @@ fn refuses_one_byte_too_many(rt: HostRuntime) {
         &[0xff, 0xbf, 0x00],
         &[0x80, 0xc0, 0x7f],
     ];
-    for bytes in signed {
+    for &bytes in signed {
         assert_eq!(rt; read_i(bytes), Err(LebFault::Long));
     }
 }
 
 #[test]
 fn refuses_what_is_no_shortest_number(rt: HostRuntime) {
-    let table: [(&[u8], LebFault, LebFault); 6] = [
+    let table: &[(&[u8], LebFault, LebFault)] = &[
         (&[], LebFault::Short, LebFault::Short),
         (&[0x80], LebFault::Short, LebFault::Short),
         (&[0x80, 0x00], LebFault::Long, LebFault::Long),
@@ -140,7 +140,7 @@ fn refuses_what_is_no_shortest_number(rt: HostRuntime) {
             LebFault::Large,
         ),
     ];
-    for (bytes, unsigned, signed) in table {
+    for &(bytes, unsigned, signed) in table {
         assert_eq!(rt; read_u(bytes), Err(unsigned));
         assert_eq!(rt; read_i(bytes), Err(signed));
     }

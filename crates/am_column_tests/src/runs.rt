@@ -63,7 +63,7 @@ fn texts_alike(rt: HostRuntime) {
 #[test]
 fn judged(rt: HostRuntime) {
     // spellings, the most entries, whether they are canonical, and whether they can be read
-    let table: [(&[&[u8]], u64, bool, bool); 3] = [
+    let table: &[(&[&[u8]], u64, bool, bool)] = &[
         (
             &[
                 &[],
@@ -106,7 +106,7 @@ fn judged(rt: HostRuntime) {
             false,
         ),
     ];
-    for (spellings, most, canonical, readable) in table {
+    for &(spellings, most, canonical, readable) in table {
         for bytes in spellings {
             let judged = (
                 is_canonical::<UnsignedItem>(bytes, most),
@@ -208,7 +208,7 @@ fn repeated_words(rt: HostRuntime) {
 #[test]
 fn skimmed(rt: HostRuntime) {
     // a literal run, and whether it has as many numbers as it says: unsigned ones, signed ones
-    let table: [(&[u8], bool, bool); 12] = [
+    let table: &[(&[u8], bool, bool)] = &[
         (&[0x7e, 0x80, 1, 1], true, true),
         (&[0x7e, 1, 0x80, 0], false, false),
         (&[0x7e, 0xc0, 0, 5], false, true),
@@ -244,7 +244,7 @@ fn skimmed(rt: HostRuntime) {
         (&[0x7d, 5, 0x80, 1], false, false),
         (&[0x7d, 1, 2], false, false),
     ];
-    for (bytes, unsigned, signed) in table {
+    for &(bytes, unsigned, signed) in table {
         let judged = (
             UnsignedCursor::over(bytes, 3).is_ok(),
             SignedCursor::over(bytes, 3).is_ok(),

@@ -135,13 +135,13 @@ fn actors_have_1_to_1024_bytes(rt: HostRuntime) -> Result<(), Fail> {
 
 #[test]
 fn ids_go_by_counter_then_actor(rt: HostRuntime) {
-    let table: [(u64, &[u8], u64, &[u8], Ordering); 4] = [
+    let table: &[(u64, &[u8], u64, &[u8], Ordering)] = &[
         (1, b"b", 2, b"a", Ordering::Less),
         (2, b"b", 2, b"a", Ordering::Greater),
         (2, b"a", 2, b"ab", Ordering::Less),
         (2, b"a", 2, b"a", Ordering::Equal),
     ];
-    for (counter, actor, other_counter, other_actor, order) in table {
+    for &(counter, actor, other_counter, other_actor, order) in table {
         let a = IdRef { counter, actor };
         let b = IdRef {
             counter: other_counter,
