@@ -3,8 +3,6 @@
 
 mod cache;
 mod laws;
-#[cfg(test)]
-mod tests;
 mod view;
 
 pub use cache::Cache;

@@ -13,8 +13,6 @@ mod hashing;
 mod laws;
 mod numbers;
 mod parse;
-#[cfg(test)]
-mod tests;
 mod write;
 
 pub use change_ref::ChangeRef;

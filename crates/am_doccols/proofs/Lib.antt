@@ -8,6 +8,5 @@ pub mod MetasWritten
 pub mod MetasTaken
 pub mod Skipped
 pub mod Spelling
-pub mod TakingTested
 pub mod RowsSpelled
 pub mod MetasSpelled

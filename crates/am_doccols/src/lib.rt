@@ -15,8 +15,6 @@ mod passing;
 mod row;
 mod row_writer;
 mod rows;
-#[cfg(test)]
-mod tests;
 mod unnamed;
 
 pub use am_fields::{IdCursor as SuccCursor, IndexCursor};

@@ -14,6 +14,3 @@ pub use fault::FrameFault;
 pub use frame::{Frame, next_frame};
 pub use laws::{one_fault, one_reading};
 pub use reading::some_reading;
-
-#[cfg(test)]
-mod tests;

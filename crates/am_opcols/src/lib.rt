@@ -13,8 +13,6 @@ mod laws;
 mod listed;
 mod op;
 mod others;
-#[cfg(test)]
-mod tests;
 mod write;
 
 pub use am_fields::IdCursor as PredCursor;

@@ -7,8 +7,6 @@ mod forms;
 mod line;
 mod parser;
 mod planned;
-#[cfg(test)]
-mod tests;
 mod words;
 
 pub use command::Command;

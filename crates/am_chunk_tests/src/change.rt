@@ -1,5 +1,5 @@
 //! Outside values: whole changes, read and written back byte for byte, and what is refused.
-use crate::*;
+use am_change::{ChangeFault, ChangeRef, chunk_of, contents_of, parse_change, with_hashes};
 use am_types::Hash;
 use std::alloc::Global;
 use std::test::Fail;

@@ -1,5 +1,5 @@
 //! Outside values: documents as the reference encoder and as another producer write them, and damaged ones.
-use crate::*;
+use am_doc::{DocFault, DocRef};
 
 // One change of one operation.
 const ONE: [u8; 95] = [

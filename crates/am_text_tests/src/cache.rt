@@ -1,6 +1,6 @@
 //! Tests of the cache: which of seventeen views are kept, and what counts as a hit.
 
-use crate::{Cache, View};
+use am_cache::{Cache, View};
 use am_json::Form;
 use am_types::{Bytes, Hash, List};
 use std::alloc::{AllocError, Global};

@@ -1,5 +1,5 @@
 //! Chunks that the reference encoder made.
-use crate::{FrameFault, framed, next_frame};
+use am_frame::{FrameFault, framed, next_frame};
 use std::test::Fail;
 
 /// A change that sets the key "a" to 1, and a document without changes.

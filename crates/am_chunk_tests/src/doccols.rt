@@ -1,7 +1,7 @@
 //! Outside values: the columns of a document that holds one set key, and of one that holds that key and its deletion;
 //! and columns as other producers write them.
-use crate::*;
 use am_colmeta::{ActorList, ColumnList, Columns};
+use am_doccols::{MetaCursor, RowCursor, SuccCursor};
 use am_types::{KeyRef, ObjRef};
 
 const ROW_SPECS: [u64; 16] = [

@@ -1,5 +1,5 @@
 //! What lines and words ask for, at their bounds.
-use crate::{Command, LineFault, Plan, PlanFault, plan, read_line};
+use am_script::{Command, LineFault, Plan, PlanFault, plan, read_line};
 use am_types::{Hash, List, Text};
 use std::alloc::Global;
 use std::test::Fail;

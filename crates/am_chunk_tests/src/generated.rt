@@ -1,7 +1,7 @@
 //! The hashes of generated changes; how many changes and operations are made, what they depend on, and which letters they
 //! insert.
-use crate::made;
 use am_change::with_hashes;
+use am_gen::made;
 use am_types::{Change, Hash, Key};
 use std::test::Fail;
 

@@ -1,6 +1,6 @@
 //! Outside values: the operations of whole changes, read from their columns and written back.
-use crate::*;
 use am_colmeta::{ActorList, ColumnList, Columns};
+use am_opcols::OpCursor;
 use am_types::{KeyRef, ObjRef};
 
 const KNOWN: [u64; 14] = [1, 2, 17, 19, 21, 52, 66, 86, 87, 112, 113, 115, 148, 165];
