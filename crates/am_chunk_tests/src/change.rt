@@ -250,25 +250,25 @@ fn reads_changes_and_writes_them_back(rt: HostRuntime) -> Result<(), Fail> {
 fn refuses_what_is_no_change(rt: HostRuntime) {
     let bad = Some(ChangeFault::BadChange);
     let repeat_of_one = with(A1, 21, 0x01);
-    let cases: [&[u8]; 9] = [
-        &repeat_of_one,
-        &OTHER_ACTOR,
-        &EMPTY_COLUMN,
-        &SPLIT,
-        &FALSES,
-        &TWICE,
-        &PREDS,
-        &START,
-        &[],
-    ];
-    for bytes in cases {
-        assert_eq!(rt; fault_of(rt.alloc(), bytes), bad, "{bytes:?}");
-    }
     let compressed = Some(ChangeFault::CompressedColumn);
     let deflated = with(A1, 9, 0x1d);
-    assert_eq!(rt; fault_of(rt.alloc(), &deflated), compressed);
-    assert_eq!(rt; fault_of(rt.alloc(), &deflated[..21]), compressed);
-    assert_eq!(rt; fault_of(rt.alloc(), &deflated[..20]), bad);
+    let cases: [(&[u8], Option<ChangeFault>); 12] = [
+        (&repeat_of_one, bad),
+        (&OTHER_ACTOR, bad),
+        (&EMPTY_COLUMN, bad),
+        (&SPLIT, bad),
+        (&FALSES, bad),
+        (&TWICE, bad),
+        (&PREDS, bad),
+        (&START, bad),
+        (&[], bad),
+        (&deflated, compressed),
+        (&deflated[..21], compressed),
+        (&deflated[..20], bad),
+    ];
+    for (bytes, fault) in cases {
+        assert_eq!(rt; fault_of(rt.alloc(), bytes), fault, "{bytes:?}");
+    }
 }
 
 #[test]
@@ -277,17 +277,15 @@ fn tells_the_parts_of_a_change(rt: HostRuntime) {
         panic!(rt; "the change is refused");
     };
     let mut deps = change.deps();
-    assert_eq!(rt; deps.count(), 2);
-    assert_eq!(rt; deps.get(1).map(|hash| hash.0[0]), Some(0xd8));
-    assert_eq!(rt; deps.next().map(|hash| hash.0[0]), Some(0x51));
+    let count = deps.count();
+    let second = deps.get(1).map(|hash| hash.0[0]);
+    let first = deps.next().map(|hash| hash.0[0]);
+    assert_eq!(rt; (count, first, second), (2, Some(0x51), Some(0xd8)));
     assert_eq!(rt; deps.get(1), None);
-    assert_eq!(rt; change.actor(), [0xaa].as_slice());
-    assert_eq!(rt; change.seq(), 2);
-    assert_eq!(rt; change.start(), 3);
-    assert_eq!(rt; change.time(), -5);
-    assert_eq!(rt; change.message(), "hi");
-    assert_eq!(rt; change.extra(), [1, 2].as_slice());
-    assert_eq!(rt; change.count(), 1);
+    let numbers = (change.seq(), change.start(), change.time(), change.count());
+    assert_eq!(rt; numbers, (2, 3, -5, 1));
+    let texts = (change.actor(), change.message(), change.extra());
+    assert_eq!(rt; texts, ([0xaa].as_slice(), "hi", [1, 2].as_slice()));
     assert!(rt; change.ops().next().is_some_and(|op| op.action == 3));
 }
 

@@ -133,44 +133,40 @@ fn reads_two_change_rows(rt: HostRuntime) {
 
 #[test]
 fn refuses_what_is_no_change_row(rt: HostRuntime) {
-    let metadata: [u8; 7] = [0x03, 0x01, 0x02, 0x03, 0x02, 0x13, 0x02];
     // Times, messages, dependencies and extra bytes may all be left out.
-    assert!(rt; metas_of(&metadata, &[0x7f, 0x00, 0x7f, 0x01, 0x7f, 0x00]).is_some());
-    // No such actor, a number of 0, a null.
-    assert!(rt; metas_of(&metadata, &[0x7f, 0x01, 0x7f, 0x01, 0x7f, 0x00]).is_none());
-    assert!(rt; metas_of(&metadata, &[0x7f, 0x00, 0x7f, 0x00, 0x7f, 0x00]).is_none());
-    assert!(rt; metas_of(&metadata, &[0x7f, 0x00, 0x00, 0x01, 0x7f, 0x00]).is_none());
-    // Extra bytes of kind 0 and of kind 1, and a dependency that is no change row.
+    let alone: [u8; 7] = [0x03, 0x01, 0x02, 0x03, 0x02, 0x13, 0x02];
     let with_extra: [u8; 9] = [0x04, 0x01, 0x02, 0x03, 0x02, 0x13, 0x02, 0x56, 0x02];
-    assert!(rt;
-        metas_of(
-            &with_extra,
-            &[0x7f, 0x00, 0x7f, 0x01, 0x7f, 0x00, 0x7f, 0x00]
-        )
-        .is_some()
-    );
-    assert!(rt;
-        metas_of(
-            &with_extra,
-            &[0x7f, 0x00, 0x7f, 0x01, 0x7f, 0x00, 0x7f, 0x01]
-        )
-        .is_none()
-    );
     let with_deps: [u8; 11] = [
         0x05, 0x01, 0x02, 0x03, 0x02, 0x13, 0x02, 0x40, 0x02, 0x43, 0x02,
     ];
-    assert!(rt;
-        metas_of(
+    // The columns, their bytes, and what is wrong with them.
+    let cases: [(&[u8], &[u8], Option<&str>); 8] = [
+        (&alone, b"\x7f\x00\x7f\x01\x7f\x00", None),
+        (&alone, b"\x7f\x01\x7f\x01\x7f\x00", Some("no such actor")),
+        (&alone, b"\x7f\x00\x7f\x00\x7f\x00", Some("a number of 0")),
+        (&alone, b"\x7f\x00\x00\x01\x7f\x00", Some("a null")),
+        (&with_extra, b"\x7f\x00\x7f\x01\x7f\x00\x7f\x00", None),
+        (
+            &with_extra,
+            b"\x7f\x00\x7f\x01\x7f\x00\x7f\x01",
+            Some("extra bytes of kind 1"),
+        ),
+        (
             &with_deps,
-            &[0x7f, 0x00, 0x7f, 0x01, 0x7f, 0x00, 0x7f, 0x01, 0x7f, 0x00]
-        )
-        .is_some()
-    );
-    assert!(rt;
-        metas_of(
+            b"\x7f\x00\x7f\x01\x7f\x00\x7f\x01\x7f\x00",
+            None,
+        ),
+        (
             &with_deps,
-            &[0x7f, 0x00, 0x7f, 0x01, 0x7f, 0x00, 0x7f, 0x01, 0x7f, 0x01]
-        )
-        .is_none()
-    );
+            b"\x7f\x00\x7f\x01\x7f\x00\x7f\x01\x7f\x01",
+            Some("a dependency that is no change row"),
+        ),
+    ];
+    for (metadata, body, wrong) in cases {
+        assert_eq!(rt;
+            metas_of(metadata, body).is_none(),
+            wrong.is_some(),
+            "{wrong:?} at {body:?}"
+        );
+    }
 }

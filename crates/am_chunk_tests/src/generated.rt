@@ -2,7 +2,7 @@
 //! insert.
 use am_change::with_hashes;
 use am_gen::made;
-use am_types::{Change, Hash, Key};
+use am_types::{Change, Hash, Key, List};
 use std::test::Fail;
 
 /// Hashes of generated changes, each at its place, as another program computed them. A hash depends on all changes of the
@@ -76,15 +76,13 @@ fn is_at_front(change: &Change) -> bool {
 
 #[test]
 fn counts_are_as_asked(rt: HostRuntime) -> Result<(), Fail> {
-    let alloc = rt.alloc();
-    let none = made(alloc, 0)?;
-    assert_eq!(rt; none.len(), 0);
-    let one = made(alloc, 1)?;
-    assert_eq!(rt; one.len(), 1);
-    assert_eq!(rt; operations(one.as_slice()), 2);
-    let four = made(alloc, 4)?;
-    assert_eq!(rt; four.len(), 4);
-    assert_eq!(rt; operations(four.as_slice()), 11);
+    // How many changes are asked for, and how many operations they have.
+    let cases: [(u8, usize); 3] = [(0, 0), (1, 2), (4, 11)];
+    for (count, want) in cases {
+        let changes = made(rt.alloc(), u64::from(count))?;
+        assert_eq!(rt; changes.len(), usize::from(count));
+        assert_eq!(rt; operations(changes.as_slice()), want, "of {count} changes");
+    }
     Ok(())
 }
 
@@ -96,17 +94,11 @@ fn rounds_come_after_each_other(rt: HostRuntime) -> Result<(), Fail> {
         assert!(rt; false);
         return Ok(());
     };
-    assert_eq!(rt; zero.deps.len(), 0);
-    assert_eq!(rt; one.deps.len(), 1);
-    assert_eq!(rt; three.deps.len(), 1);
-    assert_eq!(rt; four.deps.len(), 3);
-    assert_eq!(rt; one.seq, 2);
-    assert_eq!(rt; two.seq, 1);
-    assert_eq!(rt; four.start, 6);
-    assert!(rt; is_at_front(one));
-    assert!(rt; !is_at_front(four));
-    assert!(rt; inserts(one, b"b"));
-    assert!(rt; inserts(three, b"d"));
+    let counts = [&zero.deps, &one.deps, &three.deps, &four.deps].map(List::len);
+    assert_eq!(rt; counts, [0, 1, 1, 3]);
+    assert_eq!(rt; (one.seq, two.seq, four.start), (2, 1, 6));
+    assert!(rt; is_at_front(one) && !is_at_front(four));
+    assert!(rt; inserts(one, b"b") && inserts(three, b"d"));
     Ok(())
 }
 

@@ -58,28 +58,18 @@ fn reads_an_operation(rt: HostRuntime) {
 
 #[test]
 fn refuses_columns(rt: HostRuntime) {
-    let mut bad = BODY;
-    bad[5] = 0x08;
-    assert!(rt;
-        cursor(&METADATA, &bad, &[0x00]).is_none(),
-        "an action above 7"
-    );
-    let mut bad = BODY;
-    bad[12] = 0x01;
-    assert!(rt;
-        cursor(&METADATA, &bad, &[0x00]).is_none(),
-        "an actor that isn't listed"
-    );
-    let mut bad = BODY;
-    bad[14] = 0x00;
-    assert!(rt;
-        cursor(&METADATA, &bad, &[0x00]).is_none(),
-        "a counter of 0"
-    );
-    let mut bad = BODY;
-    bad[10] = 0x02;
-    assert!(rt;
-        cursor(&METADATA, &bad, &[0x00]).is_none(),
-        "a length without ids"
-    );
+    // A byte of the body, what stands in its place, and what is wrong with that.
+    let cases = [
+        (5, 0x08, "an action above 7"),
+        (12, 0x01, "an actor that isn't listed"),
+        (14, 0x00, "a counter of 0"),
+        (10, 0x02, "a length without ids"),
+    ];
+    for (place, byte, why) in cases {
+        let mut bad = BODY;
+        if let Some(at) = bad.get_mut(place) {
+            *at = byte;
+        }
+        assert!(rt; cursor(&METADATA, &bad, &[0x00]).is_none(), "{why}");
+    }
 }

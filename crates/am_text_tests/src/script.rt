@@ -1,6 +1,6 @@
 //! What lines and words ask for, at their bounds.
 use am_script::{Command, LineFault, Plan, PlanFault, plan, read_line};
-use am_types::{Hash, List, Text};
+use am_types::{List, Text};
 use std::alloc::Global;
 use std::test::Fail;
 
@@ -16,43 +16,20 @@ fn words(rt: &HostRuntime, texts: &[&str]) -> Result<List<Text>, Fail> {
     Ok(list)
 }
 
-// The command of a line, where it has one.
-fn command(alloc: Global, line: &[u8]) -> Option<Command> {
-    match read_line(alloc, line) {
-        Ok(command) => command,
-        Err(_) => None,
-    }
-}
-
-// The file whose chunks a line lists.
-fn listed(alloc: Global, line: &[u8]) -> Option<Text> {
-    match command(alloc, line) {
-        Some(Command::Frames(name)) => Some(name),
-        _ => None,
-    }
-}
-
-// The file in which a line keeps a change.
-fn exported(alloc: Global, line: &[u8]) -> Option<Text> {
-    match command(alloc, line) {
-        Some(Command::Export(_hash, name)) => Some(name),
-        _ => None,
-    }
-}
-
-// The hashes at which a line shows the document.
-fn shown(alloc: Global, line: &[u8]) -> Option<List<Hash>> {
-    match command(alloc, line) {
-        Some(Command::Show(hashes)) => Some(hashes),
-        _ => None,
-    }
-}
-
-// The hashes at which a line replays the changes.
-fn audited(alloc: Global, line: &[u8]) -> Option<List<Hash>> {
-    match command(alloc, line) {
-        Some(Command::Audit(hashes)) => Some(hashes),
-        _ => None,
+// The word of a command, the file that it names, and its number or how many hashes it has.
+fn parts(command: &Command) -> (&'static str, &str, u64) {
+    match command {
+        Command::Frames(name) => ("frames", name.as_str(), 0),
+        Command::Load(name) => ("load", name.as_str(), 0),
+        Command::Save(name) => ("save", name.as_str(), 0),
+        Command::Export(_hash, name) => ("export", name.as_str(), 1),
+        Command::Show(hashes) => ("show", "", hashes.len() as u64),
+        Command::Audit(hashes) => ("audit", "", hashes.len() as u64),
+        Command::Heads => ("heads", "", 0),
+        Command::History => ("history", "", 0),
+        Command::Stats => ("stats", "", 0),
+        Command::Bench(count) => ("bench", "", *count),
+        _ => ("another", "", 0),
     }
 }
 
@@ -60,23 +37,26 @@ fn audited(alloc: Global, line: &[u8]) -> Option<List<Hash>> {
 fn lines_are_commands(rt: HostRuntime) -> Result<(), Fail> {
     let alloc = rt.alloc();
     assert!(rt; matches!(read_line(alloc, b""), Ok(None)));
-    assert!(rt; matches!(listed(alloc, b"frames A1"), Some(name) if name.as_str() == "A1"));
-    assert!(rt; matches!(shown(alloc, b"show"), Some(hashes) if hashes.len() == 0));
     let show = format!(in alloc; "show {A_HASH} {A_HASH}")?;
-    assert!(rt; matches!(shown(alloc, show.as_bytes()), Some(hashes) if hashes.len() == 2));
-    assert!(rt; matches!(command(alloc, b"heads"), Some(Command::Heads)));
     let export = format!(in alloc; "export {A_HASH} A1")?;
-    assert!(rt; matches!(exported(alloc, export.as_bytes()), Some(name) if name.as_str() == "A1"));
-    assert!(rt; matches!(command(alloc, b"history"), Some(Command::History)));
-    assert!(rt; matches!(command(alloc, b"stats"), Some(Command::Stats)));
-    assert!(rt; matches!(audited(alloc, b"audit"), Some(hashes) if hashes.len() == 0));
-    assert!(rt; matches!(command(alloc, b"bench 0"), Some(Command::Bench(0))));
-    assert!(rt;
-        matches!(
-            command(alloc, b"bench 100000"),
-            Some(Command::Bench(100_000))
-        )
-    );
+    let cases: [(&[u8], (&str, &str, u64)); 10] = [
+        (b"frames A1", ("frames", "A1", 0)),
+        (b"show", ("show", "", 0)),
+        (show.as_bytes(), ("show", "", 2)),
+        (b"heads", ("heads", "", 0)),
+        (export.as_bytes(), ("export", "A1", 1)),
+        (b"history", ("history", "", 0)),
+        (b"stats", ("stats", "", 0)),
+        (b"audit", ("audit", "", 0)),
+        (b"bench 0", ("bench", "", 0)),
+        (b"bench 100000", ("bench", "", 100_000)),
+    ];
+    for (line, want) in cases {
+        match read_line(alloc, line) {
+            Ok(Some(command)) => assert_eq!(rt; parts(&command), want),
+            _ => assert!(rt; false, "{want:?}"),
+        }
+    }
     Ok(())
 }
 
@@ -85,24 +65,24 @@ fn lines_are_refused(rt: HostRuntime) -> Result<(), Fail> {
     let alloc = rt.alloc();
     let long = vec![in alloc; b'x'; 65_537]?;
     assert!(rt; matches!(read_line(alloc, &long), Err(LineFault::TooLong)));
-    assert!(rt; matches!(read_line(alloc, &long[1..]), Err(LineFault::Syntax)));
-    assert!(rt; matches!(read_line(alloc, b"show x"), Err(LineFault::BadHash)));
-    assert!(rt; matches!(read_line(alloc, b"conflicts x"), Err(LineFault::BadHash)));
-    assert!(rt; matches!(read_line(alloc, b"export x A1"), Err(LineFault::BadHash)));
-    assert!(rt; matches!(read_line(alloc, b"export x"), Err(LineFault::Syntax)));
-    assert!(rt; matches!(read_line(alloc, b"shows x"), Err(LineFault::Syntax)));
-    assert!(rt; matches!(read_line(alloc, b"show  x"), Err(LineFault::Syntax)));
-    assert!(rt; matches!(read_line(alloc, b"heads "), Err(LineFault::Syntax)));
-    assert!(rt; matches!(read_line(alloc, b"heads x"), Err(LineFault::Syntax)));
-    assert!(rt; matches!(read_line(alloc, b"bench 100001"), Err(LineFault::Syntax)));
-    assert!(rt; matches!(read_line(alloc, b"bench 01"), Err(LineFault::Syntax)));
-    assert!(rt; matches!(read_line(alloc, b"bench +1"), Err(LineFault::Syntax)));
-    assert!(rt;
-        matches!(
-            read_line(alloc, b"bench 18446744073709551617"),
-            Err(LineFault::Syntax)
-        )
-    );
+    let cases: [(&[u8], LineFault); 13] = [
+        (&long[1..], LineFault::Syntax),
+        (b"show x", LineFault::BadHash),
+        (b"conflicts x", LineFault::BadHash),
+        (b"export x A1", LineFault::BadHash),
+        (b"export x", LineFault::Syntax),
+        (b"shows x", LineFault::Syntax),
+        (b"show  x", LineFault::Syntax),
+        (b"heads ", LineFault::Syntax),
+        (b"heads x", LineFault::Syntax),
+        (b"bench 100001", LineFault::Syntax),
+        (b"bench 01", LineFault::Syntax),
+        (b"bench +1", LineFault::Syntax),
+        (b"bench 18446744073709551617", LineFault::Syntax),
+    ];
+    for (line, fault) in cases {
+        assert_eq!(rt; read_line(alloc, line).err(), Some(fault), "{line:?}");
+    }
     Ok(())
 }
 
@@ -130,39 +110,45 @@ fn words_have_plans(rt: HostRuntime) -> Result<(), Fail> {
     let alloc = rt.alloc();
     let run = words(&rt, &["run"])?;
     assert!(rt; matches!(plan(alloc, run.as_slice()), Ok(Plan::ReadInput)));
-    let show = words(&rt, &["show", "d", A_HASH])?;
-    assert!(rt;
-        matches!(plan(alloc, show.as_slice()), Ok(Plan::Lines(lines)) if matches!(lines.as_slice(), [Command::Load(_), Command::Show(_)]))
-    );
-    let check = words(&rt, &["check", "d"])?;
-    assert!(rt;
-        matches!(plan(alloc, check.as_slice()), Ok(Plan::Lines(lines)) if matches!(lines.as_slice(), [Command::Load(_)]))
-    );
-    let normalize = words(&rt, &["normalize", "x", "y"])?;
-    assert!(rt;
-        matches!(plan(alloc, normalize.as_slice()), Ok(Plan::Lines(lines)) if matches!(lines.as_slice(), [Command::Load(_), Command::Save(_)]))
-    );
-    let history = words(&rt, &["history", "d"])?;
-    assert!(rt;
-        matches!(plan(alloc, history.as_slice()), Ok(Plan::Lines(lines)) if matches!(lines.as_slice(), [Command::Load(_), Command::History]))
-    );
+    // The words, and those of the commands that they mean.
+    let cases: [(&[&str], &[&str]); 4] = [
+        (&["show", "d", A_HASH], &["load", "show"]),
+        (&["check", "d"], &["load"]),
+        (&["normalize", "x", "y"], &["load", "save"]),
+        (&["history", "d"], &["load", "history"]),
+    ];
+    for (texts, want) in cases {
+        let list = words(&rt, texts)?;
+        match plan(alloc, list.as_slice()) {
+            Ok(Plan::Lines(lines)) => assert!(rt;
+                lines
+                    .as_slice()
+                    .iter()
+                    .map(|command| parts(command).0)
+                    .eq(want.iter().copied()),
+                "{texts:?}"
+            ),
+            _ => assert!(rt; false, "{texts:?}"),
+        }
+    }
     Ok(())
 }
 
 #[test]
 fn words_have_no_plan(rt: HostRuntime) -> Result<(), Fail> {
     let alloc = rt.alloc();
-    let none = words(&rt, &[])?;
-    assert!(rt; matches!(plan(alloc, none.as_slice()), Err(PlanFault::BadWords)));
-    let show = words(&rt, &["show"])?;
-    assert!(rt; matches!(plan(alloc, show.as_slice()), Err(PlanFault::BadWords)));
-    let hash = words(&rt, &["show", "d", "x"])?;
-    assert!(rt; matches!(plan(alloc, hash.as_slice()), Err(PlanFault::BadWords)));
-    let help = words(&rt, &["help"])?;
-    assert!(rt; matches!(plan(alloc, help.as_slice()), Err(PlanFault::BadWords)));
-    let hyphen = words(&rt, &["check", "-d"])?;
-    assert!(rt; matches!(plan(alloc, hyphen.as_slice()), Err(PlanFault::BadWords)));
-    let more = words(&rt, &["history", "d", "e"])?;
-    assert!(rt; matches!(plan(alloc, more.as_slice()), Err(PlanFault::BadWords)));
+    let cases: [&[&str]; 6] = [
+        &[],
+        &["show"],
+        &["show", "d", "x"],
+        &["help"],
+        &["check", "-d"],
+        &["history", "d", "e"],
+    ];
+    for texts in cases {
+        let list = words(&rt, texts)?;
+        let fault = plan(alloc, list.as_slice()).err();
+        assert_eq!(rt; fault, Some(PlanFault::BadWords), "{texts:?}");
+    }
     Ok(())
 }
