@@ -4,8 +4,6 @@
 mod chain;
 mod laws;
 mod node;
-#[cfg(test)]
-mod tests;
 mod walk;
 mod whole;
 

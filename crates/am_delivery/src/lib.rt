@@ -9,10 +9,6 @@ mod finishing;
 mod laws;
 mod pending;
 mod removing;
-#[cfg(test)]
-mod sample_set;
-#[cfg(test)]
-mod tests;
 
 pub use arriving::is_same;
 pub use closed::Closed;

@@ -15,4 +15,3 @@ pub mod Covered
 pub mod Adding
 pub mod Cut
 pub mod Firsts
-pub mod TestSets

@@ -7,4 +7,3 @@ pub mod Tables
 pub mod Told
 pub mod Past
 pub mod Shown
-pub mod Samples

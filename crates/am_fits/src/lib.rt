@@ -9,8 +9,6 @@ mod runs;
 mod seen;
 mod spans;
 mod table;
-#[cfg(test)]
-mod tests;
 mod texts;
 mod totals;
 

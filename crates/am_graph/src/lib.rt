@@ -12,8 +12,6 @@ mod node;
 mod parts;
 mod place;
 mod reach;
-#[cfg(test)]
-mod tests;
 mod walk;
 
 pub use clock::{Clock, Reached, covers_ancestors_alone};

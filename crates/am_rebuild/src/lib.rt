@@ -19,8 +19,6 @@ mod path;
 mod rebuilding;
 mod rebuilt;
 mod telling;
-#[cfg(test)]
-mod tests;
 
 pub use document::{rebuild, rebuild_whole};
 pub use fault::RebuildFault;

@@ -3,11 +3,7 @@
 
 mod laws;
 mod placed;
-#[cfg(test)]
-mod samples;
 mod states;
-#[cfg(test)]
-mod tests;
 mod visible;
 
 pub use laws::entries_are_in_order;

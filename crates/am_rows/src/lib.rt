@@ -6,10 +6,6 @@ mod lent;
 mod naming;
 mod ranked;
 mod rows;
-#[cfg(test)]
-mod samples;
-#[cfg(test)]
-mod tests;
 
 pub use am_places::Numbered;
 pub use lent::{LentRow, LentRows, lent_rows};

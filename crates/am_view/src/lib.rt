@@ -6,8 +6,6 @@ mod laws;
 mod shown;
 mod slots;
 mod tally;
-#[cfg(test)]
-mod tests;
 
 pub use laws::{reads_by_rows, walks_rows};
 pub use shown::Shown;

@@ -1,7 +1,0 @@
-use Rattle.std.proofs.Common.{All}
-use Rattle.am_types.specs.Deliver.{MayCome}
-use Rattle.am_delivery.specs.Waiting.{members_of}
-use Rattle.am_delivery.proofs.tests.changes.Given as goal
-
-abbrev pub invariant-loop-sample : goal.invariant-loop-sample
-invariant-loop-sample l = All MayCome (members_of l.changes.items)

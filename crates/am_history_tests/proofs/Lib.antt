@@ -1,0 +1,4 @@
+pub mod SampleSets
+pub mod DeliveryChanges
+pub mod FitSets
+pub mod ValidSets

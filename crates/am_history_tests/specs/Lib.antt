@@ -1,0 +1,2 @@
+pub mod DeliverySamples
+pub mod FitSamples

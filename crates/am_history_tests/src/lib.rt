@@ -1,0 +1,25 @@
+//! Tests of the crates from the graph of a history to what a document shows. Nothing is public.
+#![tactic(auto)]
+
+#[cfg(test)]
+mod chain;
+#[cfg(test)]
+mod delivery;
+#[cfg(test)]
+mod fits;
+#[cfg(test)]
+mod graph;
+#[cfg(test)]
+mod rebuild;
+#[cfg(test)]
+mod replay;
+#[cfg(test)]
+mod rows;
+#[cfg(test)]
+mod sample_set;
+#[cfg(test)]
+mod samples;
+#[cfg(test)]
+mod valid_set;
+#[cfg(test)]
+mod view;

@@ -1,0 +1,150 @@
+//! Tests of am_view: a document that another program wrote, read at several heads: a counter, two increments of it at once and its deletion, a
+//! value that two others replaced at once, a letter and its deletion. A function that has a graph of its own only lends it,
+//! since each of its ways out is proved to drop it well.
+use am_doc::DocRef;
+use am_graph::{Clock, Graph};
+use am_types::{ActorId, EntryRef, Hash};
+use am_view::Shown;
+use std::alloc::Global;
+use std::process::Abort;
+use std::test::Fail;
+
+const DOCUMENT: [u8; 240] = [
+    0x03, 0x01, 0xaa, 0x01, 0xbb, 0x01, 0xcc, 0x02, 0x03, 0x03, 0x03, 0x03, 0x03, 0x03, 0x03, 0x03,
+    0x03, 0x03, 0x03, 0x03, 0x03, 0x03, 0x03, 0x03, 0x03, 0x03, 0x03, 0x03, 0x03, 0x03, 0x03, 0x03,
+    0x03, 0x03, 0x03, 0x03, 0x03, 0x03, 0x03, 0x03, 0x04, 0x04, 0x04, 0x04, 0x04, 0x04, 0x04, 0x04,
+    0x04, 0x04, 0x04, 0x04, 0x04, 0x04, 0x04, 0x04, 0x04, 0x04, 0x04, 0x04, 0x04, 0x04, 0x04, 0x04,
+    0x04, 0x04, 0x04, 0x04, 0x04, 0x04, 0x04, 0x04, 0x07, 0x01, 0x05, 0x03, 0x06, 0x13, 0x05, 0x23,
+    0x02, 0x40, 0x04, 0x43, 0x04, 0x56, 0x02, 0x0d, 0x01, 0x04, 0x02, 0x04, 0x13, 0x04, 0x15, 0x0b,
+    0x21, 0x0a, 0x23, 0x09, 0x34, 0x02, 0x42, 0x08, 0x56, 0x0a, 0x57, 0x07, 0x80, 0x01, 0x0a, 0x81,
+    0x01, 0x07, 0x83, 0x01, 0x07, 0x7c, 0x00, 0x01, 0x02, 0x00, 0x7f, 0x01, 0x02, 0x00, 0x7f, 0x01,
+    0x7c, 0x04, 0x02, 0x00, 0x02, 0x04, 0x00, 0x7f, 0x00, 0x03, 0x01, 0x02, 0x00, 0x7f, 0x01, 0x04,
+    0x07, 0x00, 0x07, 0x7f, 0x00, 0x00, 0x07, 0x7f, 0x03, 0x00, 0x07, 0x7f, 0x00, 0x03, 0x01, 0x6e,
+    0x7f, 0x01, 0x74, 0x03, 0x01, 0x78, 0x00, 0x01, 0x7d, 0x00, 0x01, 0x02, 0x02, 0x00, 0x7d, 0x01,
+    0x02, 0x00, 0x78, 0x01, 0x04, 0x00, 0x7e, 0x7f, 0x04, 0x00, 0x7e, 0x07, 0x01, 0x7f, 0x01, 0x02,
+    0x05, 0x7f, 0x04, 0x04, 0x01, 0x7f, 0x18, 0x02, 0x14, 0x7f, 0x00, 0x03, 0x13, 0x7f, 0x16, 0x0a,
+    0x05, 0x7d, 0x01, 0x02, 0x03, 0x61, 0x7f, 0x03, 0x03, 0x00, 0x7f, 0x02, 0x02, 0x00, 0x7f, 0x01,
+    0x7a, 0x01, 0x02, 0x00, 0x01, 0x02, 0x00, 0x7a, 0x05, 0x00, 0x02, 0x7f, 0x00, 0x02, 0x02, 0x03,
+];
+
+// The byte that its hash repeats, the byte of its actor, its seq, its start, how many operations it has, and the byte of the
+// hash of its dependency, or 0.
+type Sample = (u8, u8, u16, u16, u16, u8);
+
+// The changes of which the document tells.
+const CHANGES: [Sample; 4] = [
+    (1, 0xaa, 1, 1, 4, 0),
+    (2, 0xbb, 1, 5, 2, 1),
+    (3, 0xcc, 1, 5, 2, 1),
+    (4, 0xaa, 2, 7, 2, 2),
+];
+
+// The counter and the actor of the id, and the total.
+type Expected = (u64, u8, i128);
+
+// The bytes of the hashes of some heads, and the entries there.
+const VIEWS: [(&[u8], &[Expected]); 6] = [
+    (
+        &[1],
+        &[(1, 0xaa, 10), (3, 0xaa, 0), (2, 0xaa, 0), (4, 0xaa, 0)],
+    ),
+    (
+        &[2],
+        &[(1, 0xaa, 15), (3, 0xaa, 0), (6, 0xbb, 0), (4, 0xaa, 0)],
+    ),
+    (
+        &[3],
+        &[(1, 0xaa, 7), (3, 0xaa, 0), (6, 0xcc, 0), (4, 0xaa, 0)],
+    ),
+    (
+        &[2, 3],
+        &[
+            (1, 0xaa, 12),
+            (3, 0xaa, 0),
+            (6, 0xbb, 0),
+            (6, 0xcc, 0),
+            (4, 0xaa, 0),
+        ],
+    ),
+    (&[4], &[(3, 0xaa, 0), (6, 0xbb, 0)]),
+    (&[3, 4], &[(3, 0xaa, 0), (6, 0xbb, 0), (6, 0xcc, 0)]),
+];
+
+fn is_entry(entry: &EntryRef<'_>, expected: &Expected) -> bool {
+    let (counter, actor, total) = *expected;
+    entry.id.counter == counter && entry.id.actor == &[actor][..] && entry.total == total
+}
+
+// Whether the contents of a document show just these at the clock.
+fn shows<'a>(contents: &'a [u8], clock: &'a Clock, expected: &[Expected]) -> bool {
+    let Ok(doc) = DocRef::read(contents) else {
+        return false;
+    };
+    let mut shown = Shown::over(doc, clock);
+    for i in 0..expected.len() {
+        match shown.next() {
+            Some(entry) => {
+                if !is_entry(&entry, &expected[i]) {
+                    return false;
+                }
+            }
+            None => return false,
+        }
+    }
+    shown.next().is_none()
+}
+
+fn hash(byte: u8) -> Hash {
+    Hash([byte; 32])
+}
+
+fn add(graph: &mut Graph, alloc: Global, sample: &Sample) -> Result<(), Fail> {
+    let (byte, actor, seq, start, count, dep) = *sample;
+    if start == 0 {
+        return Err(Fail::from("no such change"));
+    }
+    let actor = ActorId::of(alloc, &[actor])?;
+    let named = [hash(dep)];
+    let deps = if dep == 0 { &[] } else { &named[..] };
+    graph.add(
+        alloc,
+        hash(byte),
+        &actor,
+        u64::from(seq),
+        u64::from(start),
+        u64::from(count),
+        deps,
+    )?;
+    Ok(())
+}
+
+fn add_all(graph: &mut Graph, alloc: Global) -> Result<(), Fail> {
+    for i in 0..CHANGES.len() {
+        add(graph, alloc, &CHANGES[i])?;
+    }
+    Ok(())
+}
+
+fn clock_at(alloc: Global, graph: &Graph, bytes: &[u8]) -> Result<Clock, Fail> {
+    let mut heads = Vec::new(alloc);
+    for i in 0..bytes.len() {
+        heads.push(hash(bytes[i]))?;
+    }
+    Ok(graph.clock(alloc, heads.as_slice())?)
+}
+
+#[test]
+fn reads_at_heads(rt: HostRuntime) -> Result<(), Fail> {
+    let mut graph = Graph::new(rt.alloc());
+    add_all(&mut graph, rt.alloc())?;
+    reads(&rt, rt.alloc(), &graph)
+}
+
+fn reads(rt: &impl Abort, alloc: Global, graph: &Graph) -> Result<(), Fail> {
+    for i in 0..VIEWS.len() {
+        let (heads, expected) = VIEWS[i];
+        let clock = clock_at(alloc, graph, heads)?;
+        assert!(rt; shows(&DOCUMENT, &clock, expected));
+    }
+    Ok(())
+}
