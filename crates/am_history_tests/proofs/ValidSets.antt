@@ -1,11 +1,13 @@
--- A valid set in another order.
-use Rattle.std.proofs.Common.{List}
+-- A valid set in another order, and without hashes.
+use Rattle.std.proofs.Common.{◌≡◌, ◌∙◌, List, [], ◌∷◌, refl, sym, ap}
 use Rattle.std.specs.List.Sorted.{IsPermutation}
 use Rattle.std.proofs.lemmas.List.Sorted.{IsPermutation-map, IsPermutation-sym, IsPermutation-trans}
 use Rattle.am_types.specs.declared.Hash.{Hash}
 use Rattle.am_types.specs.declared.Change.{Change}
-use Rattle.am_types.specs.ValidSets.{Valid}
+use Rattle.am_types.specs.Members.{changes}
+use Rattle.am_types.specs.ValidSets.{IsValidSet, Valid}
 use Rattle.am_delivery.specs.Waiting.{member_of, members_of}
+use Rattle.am_rebuild.specs.Documents.{changes_of}
 
 pub valid_in_any_order : (es fs : List (Hash × Change)) → IsPermutation es fs → Valid (members_of es) → Valid (members_of fs)
 valid_in_any_order es fs p v =
@@ -15,3 +17,10 @@ valid_in_any_order es fs p v =
       same = IsPermutation-trans (members_of fs) (members_of es) v.listing (IsPermutation-sym (members_of es) (members_of fs) moved) v.same;
       in_turn = v.in_turn;
     }
+
+changes_of_members : (es : List (Hash × Change)) → changes (members_of es) ≡ changes_of es
+changes_of_members [] = refl
+changes_of_members (e ∷ es) = ap (λ cs. e.1 ∷ cs) (changes_of_members es)
+
+pub is_valid_set : (es : List (Hash × Change)) (cs : List Change) → cs ≡ changes_of es → Valid (members_of es) → IsValidSet cs
+is_valid_set es cs is v = record { set = members_of es; are = changes_of_members es ∙ sym is; valid = v }

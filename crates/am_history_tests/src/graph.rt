@@ -1,5 +1,5 @@
-//! Tests of am_graph: a small graph with a fork and a merge, and a long one of two branches. A function that has a graph of its own only
-//! lends it, since each of its ways out is proved to drop it well.
+//! Tests of am_graph: a small graph with a fork and a merge, and a long one of two branches. A function that has a graph
+//! of its own only lends it, since each of its ways out is proved to drop it well.
 ghost use Rattle.std.specs.Prelude.{◌↔◌, IsTrue};
 ghost use Rattle.am_types.specs.Order.{hash_cmp, Ascends};
 

@@ -1,4 +1,4 @@
-//! Tests of the crates from the graph of a history to what a document shows. Nothing is public.
+//! Tests of the crates from the elements of a list to the view of a document, over these crates. Nothing is public.
 #![tactic(auto)]
 
 #[cfg(test)]

@@ -45,6 +45,7 @@ fn joined(
 }
 
 // Exchanges two changes, if they are there.
+#[tactic(auto, using(crate::proofs::ValidSets::valid_in_any_order))]
 fn exchange(entries: &mut Vec<(Hash, Change)>, i: usize, j: usize)
     requires { Valid (members_of entries.old.items) }
     ensures { Valid (members_of entries.new.items) }
@@ -80,6 +81,7 @@ fn put_in_order(
 }
 
 // The changes without their hashes.
+#[tactic(auto, using(crate::proofs::ValidSets::is_valid_set))]
 fn without_hashes(alloc: Global, entries: Vec<(Hash, Change)>) -> Result<Vec<Change>, AllocError>
     requires { Valid (members_of (vec_items entries)) }
     ensures { IfOk result (λ changes. IsValidSet (vec_items changes)) }

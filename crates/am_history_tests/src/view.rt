@@ -1,6 +1,6 @@
-//! Tests of am_view: a document that another program wrote, read at several heads: a counter, two increments of it at once and its deletion, a
-//! value that two others replaced at once, a letter and its deletion. A function that has a graph of its own only lends it,
-//! since each of its ways out is proved to drop it well.
+//! Tests of am_view: a document that another program wrote, read at several heads. It has a counter, two increments of it at
+//! once and its deletion, a value that two others replaced at once, a letter and its deletion. A function that has a graph
+//! of its own only lends it, since each of its ways out is proved to drop it well.
 use am_doc::DocRef;
 use am_graph::{Clock, Graph};
 use am_types::{ActorId, EntryRef, Hash};
