@@ -2,36 +2,22 @@
 //! at all.
 #![tactic(auto)]
 
-#[cfg(test)]
-mod adopting_tests;
 mod chunk;
 mod contents;
 mod copies;
-#[cfg(test)]
-mod damage_tests;
-#[cfg(test)]
-mod document_tests;
 mod fault;
 mod file;
 mod file_changes;
 mod growing;
 mod hashing;
 mod history;
-#[cfg(test)]
-mod history_tests;
 mod laws;
 mod lists;
-#[cfg(test)]
-mod loading_tests;
 mod parts;
 mod rebuilding;
 mod report;
 mod saving;
-#[cfg(test)]
-mod saving_tests;
 mod store;
-#[cfg(test)]
-mod tests;
 mod unseen;
 mod waiting;
 

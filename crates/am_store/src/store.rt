@@ -369,35 +369,29 @@ fn count_of(changes: &[(Hash, Change)]) -> u64
 }
 
 impl Twin for Store {
+    // These are all fields, so no list of decoded changes is kept, and a copy forgets none. Of `closed` the code has nothing.
     fn copy(&self, alloc: Global) -> Result<Store, AllocError> {
-        let contents = self.contents.copy(alloc)?;
-        let graph = self.graph.copy(alloc)?;
-        let index = self.index.copy(alloc)?;
-        let waiting = self.waiting.copied(alloc)?;
+        let Store {
+            contents,
+            graph,
+            index,
+            waiting,
+            counts,
+            alloc: _,
+            closed,
+        } = self;
+        let contents = contents.copy(alloc)?;
+        let graph = graph.copy(alloc)?;
+        let index = index.copy(alloc)?;
+        let waiting = waiting.copied(alloc)?;
         Ok(Store {
             contents,
             graph,
             index,
             waiting,
-            counts: self.counts,
+            counts: *counts,
             alloc,
-            closed: self.closed.again(),
+            closed: closed.again(),
         })
-    }
-}
-
-#[cfg(test)]
-impl Store {
-    /// These are all fields, so no list of decoded changes is kept. Of `closed` the code has nothing.
-    pub(crate) fn has_these_fields(&self) {
-        let Store {
-            contents: _,
-            graph: _,
-            index: _,
-            waiting: _,
-            counts: _,
-            alloc: _,
-            closed: _,
-        } = self;
     }
 }

@@ -1,9 +1,8 @@
 //! Documents that the reference encoder made, saved from a store to which their changes were delivered in some order.
-use crate::Store;
-use crate::tests::{FIRST, SECOND};
+use crate::deliveries::{FIRST, SECOND};
+use am_store::Store;
 use std::alloc::Global;
 use std::process::Abort;
-use std::test::Fail;
 
 /// A change of the same actor that depends on the first, and deletes the key.
 pub(crate) const DELETION: &[u8] = &[
@@ -84,27 +83,21 @@ const SAVED: &[(&[&[u8]], &[u8], &[u8])] = &[
 ];
 
 #[test]
-fn documents_are_saved(rt: HostRuntime) -> Result<(), Fail> {
+fn documents_are_saved(rt: HostRuntime) {
     for (chunks, document, all) in SAVED {
-        let mut store = Store::new(rt.alloc())?;
-        saves(&rt, rt.alloc(), &mut store, *chunks, *document, *all)?;
+        let mut store = Store::new(rt.alloc()).expect(&rt, "there is memory");
+        for chunk in *chunks {
+            let _report = store
+                .read_file(rt.alloc(), *chunk, true)
+                .expect(&rt, "the chunk is read");
+        }
+        saves(&rt, rt.alloc(), &store, *document, *all);
     }
-    Ok(())
 }
 
-fn saves(
-    rt: &impl Abort,
-    alloc: Global,
-    store: &mut Store,
-    chunks: &[&[u8]],
-    document: &[u8],
-    all: &[u8],
-) -> Result<(), Fail> {
-    for chunk in chunks {
-        store.read_file(alloc, *chunk, true)?;
-    }
-    let saved = store.save(alloc)?;
-    let saved_all = store.save_all(alloc)?;
-    assert_eq!(rt; (saved.as_slice(), saved_all.as_slice()), (document, all));
-    Ok(())
+fn saves(rt: &impl Abort, alloc: Global, store: &Store, document: &[u8], all: &[u8]) {
+    let saved = store.save(alloc).expect(rt, "there is memory");
+    assert_eq!(rt; saved.as_slice(), document);
+    let saved = store.save_all(alloc).expect(rt, "there is memory");
+    assert_eq!(rt; saved.as_slice(), all);
 }

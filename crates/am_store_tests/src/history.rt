@@ -1,9 +1,8 @@
 //! The history of a store, of changes that the reference encoder made.
-use crate::{HistoryLine, Store};
+use am_store::{HistoryLine, Store};
 use am_types::Hash;
 use std::alloc::Global;
 use std::process::Abort;
-use std::test::Fail;
 
 /// A change of three operations.
 const THREE: &[u8] = &[
@@ -21,7 +20,7 @@ const NONE: &[u8] = &[
 ];
 
 /// One that depends on both, and leaves counters out.
-const LATE: &[u8] = &[
+pub(crate) const LATE: &[u8] = &[
     0x85, 0x6f, 0x4a, 0x83, 0x90, 0x4f, 0xfd, 0x2c, 0x01, 0x40, 0x01, 0x8f, 0x04, 0x4d, 0xe3, 0xea,
     0xfa, 0x95, 0x01, 0x04, 0x28, 0x40, 0x99, 0x5b, 0xcf, 0x66, 0x69, 0xe8, 0x3e, 0x54, 0xba, 0xb7,
     0x43, 0x19, 0x2a, 0xdb, 0xaa, 0xce, 0x68, 0x2f, 0xf3, 0xd3, 0x05, 0x01, 0xaa, 0x03, 0x09, 0x00,
@@ -97,31 +96,31 @@ const TOLD: &[Told] = &[
 ];
 
 #[test]
-fn changes_are_told_in_canonical_order(rt: HostRuntime) -> Result<(), Fail> {
-    let mut store = Store::new(rt.alloc())?;
-    tells(&rt, rt.alloc(), &mut store)
-}
-
-fn tells(rt: &impl Abort, alloc: Global, store: &mut Store) -> Result<(), Fail> {
+fn changes_are_told_in_canonical_order(rt: HostRuntime) {
+    let mut store = Store::new(rt.alloc()).expect(&rt, "there is memory");
     for chunk in [LATE, NOTED, THREE, NONE] {
-        store.read_file(alloc, chunk, true)?;
+        let _report = store
+            .read_file(rt.alloc(), chunk, true)
+            .expect(&rt, "the chunk is read");
     }
-    let lines = store.history(alloc)?;
-    assert_eq!(rt; lines.len(), TOLD.len());
-    for (i, told) in TOLD.iter().enumerate() {
-        let Some(line) = lines.as_slice().get(i) else {
-            assert!(rt; false);
-            return Ok(());
-        };
-        assert!(rt; is_told(line, told));
-    }
-    Ok(())
+    tells(&rt, rt.alloc(), &store);
 }
 
-fn is_told(line: &HistoryLine, told: &Told) -> bool {
+fn tells(rt: &impl Abort, alloc: Global, store: &Store) {
+    let lines = store.history(alloc).expect(rt, "there is memory");
+    assert_eq!(rt; lines.len(), TOLD.len());
+    for (line, told) in lines.as_slice().iter().zip(TOLD) {
+        is_told(rt, line, told);
+    }
+}
+
+fn is_told(rt: &impl Abort, line: &HistoryLine, told: &Told) {
     let (hash, actor, seq, start, count, time, message) = *told;
-    line.hash == hash
-        && line.actor.as_slice() == actor
-        && (line.seq, line.start, line.count, line.time) == (seq, start, count, time)
-        && line.message.as_str() == message
+    assert_eq!(rt; line.hash, hash);
+    assert_eq!(rt; line.actor.as_slice(), actor);
+    assert_eq!(rt;
+        (line.seq, line.start, line.count, line.time),
+        (seq, start, count, time)
+    );
+    assert_eq!(rt; line.message.as_str(), message);
 }

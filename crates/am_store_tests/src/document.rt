@@ -1,10 +1,8 @@
 //! Documents that the reference encoder made. Each is loaded, and the chunks of its changes are delivered to another store,
 //! the last one first. Both stores save it as it was.
-use crate::Store;
-use am_types::Bytes;
+use am_store::Store;
 use std::alloc::Global;
 use std::process::Abort;
-use std::test::Fail;
 
 /// The document of four changes by three actors: the first makes a text and sets a counter, and each of the others inserts a
 /// letter, adds one to the counter and sets a key.
@@ -29,50 +27,33 @@ const DOCUMENT: &[u8] = &[
     0x07, 0x00, 0x7d, 0x00, 0x01, 0x02, 0x7f, 0x04, 0x02, 0x00, 0x03, 0x01, 0x02,
 ];
 
-// A document of five changes by three actors with every action and kind of value, in parts.
-
-/// The header of the chunk.
-const HEADER: &[u8] = &[
+/// The document of five changes by three actors with every action and kind of value.
+const EVERY_KIND: &[u8] = &[
+    // The header of the chunk.
     0x85, 0x6f, 0x4a, 0x83, 0xc2, 0x93, 0x2d, 0xf6, 0x00, 0xd9, 0x04,
-];
-
-/// The actors, ascending.
-const ACTORS: &[u8] = &[0x03, 0x01, 0xaa, 0x01, 0xbb, 0x02, 0xcc, 0x01];
-
-/// The two heads.
-const HEADS: &[u8] = &[
+    // The actors, ascending.
+    0x03, 0x01, 0xaa, 0x01, 0xbb, 0x02, 0xcc, 0x01,
+    // The two heads.
     0x02, 0x6c, 0x55, 0xd7, 0x20, 0x32, 0x31, 0x60, 0x35, 0x33, 0xdc, 0xf3, 0xda, 0xc1, 0x23, 0x5c,
     0x6f, 0x05, 0x52, 0x6b, 0xf6, 0xfb, 0xac, 0xce, 0x3d, 0x24, 0xa5, 0xbe, 0xf9, 0x67, 0x74, 0xfa,
     0x1a, 0xbe, 0xdc, 0x7a, 0xc2, 0x67, 0x0a, 0x08, 0x5f, 0xed, 0xfa, 0x85, 0x2a, 0x88, 0x81, 0x81,
     0xda, 0x3a, 0x82, 0x59, 0x8b, 0x28, 0xa2, 0x60, 0x6b, 0xb9, 0xb6, 0xec, 0x96, 0x86, 0x80, 0x7b,
     0xa2,
-];
-
-/// The metadata of the change columns.
-const CHANGE_METADATA: &[u8] = &[
+    // The metadata of the change columns.
     0x09, 0x01, 0x06, 0x03, 0x07, 0x13, 0x06, 0x23, 0x16, 0x35, 0x1c, 0x40, 0x06, 0x43, 0x07, 0x56,
     0x07, 0x57, 0x05,
-];
-
-/// The metadata of the operation columns.
-const OPERATION_METADATA: &[u8] = &[
+    // The metadata of the operation columns.
     0x10, 0x01, 0x04, 0x02, 0x0b, 0x11, 0x0e, 0x13, 0x13, 0x15, 0x63, 0x21, 0x18, 0x23, 0x25, 0x34,
     0x09, 0x42, 0x15, 0x56, 0x21, 0x57, 0x25, 0x80, 0x01, 0x19, 0x81, 0x01, 0x0f, 0x83, 0x01, 0x0e,
     0x94, 0x01, 0x03, 0xa5, 0x01, 0x0a,
-];
-
-/// The change columns.
-const CHANGE_COLUMNS: &[u8] = &[
+    // The change columns.
     0x7b, 0x01, 0x00, 0x02, 0x01, 0x02, 0x7f, 0x01, 0x02, 0x00, 0x7e, 0x01, 0x00, 0x7b, 0x18, 0x06,
     0x7f, 0x05, 0x7c, 0x7b, 0x80, 0xe2, 0xcf, 0xaa, 0x06, 0xfb, 0x9d, 0xb0, 0xd5, 0x79, 0x05, 0x81,
     0xe2, 0xcf, 0xaa, 0x06, 0xff, 0x9d, 0xb0, 0xd5, 0x79, 0x7f, 0x05, 0x62, 0x65, 0x67, 0x69, 0x6e,
     0x00, 0x01, 0x7f, 0x07, 0x73, 0x70, 0xc3, 0xa4, 0x74, 0x65, 0x72, 0x00, 0x01, 0x7f, 0x06, 0x6d,
     0x65, 0x72, 0x67, 0x65, 0x64, 0x7f, 0x00, 0x02, 0x01, 0x02, 0x02, 0x02, 0x00, 0x02, 0x01, 0x7e,
     0x7f, 0x01, 0x7f, 0x37, 0x02, 0x07, 0x7e, 0x27, 0x07, 0x01, 0x02, 0x03, 0x00, 0xff,
-];
-
-/// The operation columns.
-const OPERATION_COLUMNS: &[u8] = &[
+    // The operation columns.
     0x00, 0x04, 0x1f, 0x01, 0x00, 0x04, 0x10, 0x01, 0x05, 0x02, 0x08, 0x03, 0x7e, 0x04, 0x12, 0x00,
     0x15, 0x04, 0x01, 0x00, 0x01, 0x03, 0x01, 0x7f, 0x02, 0x03, 0x01, 0x00, 0x02, 0x00, 0x14, 0x7e,
     0x00, 0x11, 0x02, 0x00, 0x77, 0x01, 0x6e, 0x14, 0x01, 0x00, 0x04, 0x7c, 0x00, 0x01, 0x00, 0x02,
@@ -97,68 +78,46 @@ const OPERATION_COLUMNS: &[u8] = &[
     0x01, 0x02, 0x00, 0x01, 0x00, 0x02, 0x02, 0x01, 0x7d, 0x00, 0x01, 0x00, 0x73, 0x1b, 0x00, 0x06,
     0x79, 0x02, 0x04, 0x7a, 0x02, 0x03, 0x00, 0x7f, 0x04, 0x7b, 0x19, 0x01, 0x09, 0x00, 0x19, 0x7f,
     0x04, 0x62, 0x6f, 0x6c, 0x64, 0x00, 0x09,
-];
-
-/// The places of the heads.
-const SUFFIX: &[u8] = &[0x03, 0x04];
-
-/// The parts of the document.
-const PARTS: &[&[u8]] = &[
-    HEADER,
-    ACTORS,
-    HEADS,
-    CHANGE_METADATA,
-    OPERATION_METADATA,
-    CHANGE_COLUMNS,
-    OPERATION_COLUMNS,
-    SUFFIX,
+    // The places of the heads.
+    0x03, 0x04,
 ];
 
 #[test]
-fn a_document_is_saved_as_it_was(rt: HostRuntime) -> Result<(), Fail> {
-    let mut store = Store::new(rt.alloc())?;
-    let mut other = Store::new(rt.alloc())?;
-    goes_round(&rt, rt.alloc(), &mut store, &mut other, DOCUMENT)
+fn a_document_is_saved_as_it_was(rt: HostRuntime) {
+    goes_round(&rt, rt.alloc(), DOCUMENT);
 }
 
 #[test]
-fn a_document_of_every_kind_is_saved_as_it_was(rt: HostRuntime) -> Result<(), Fail> {
-    let mut store = Store::new(rt.alloc())?;
-    let mut other = Store::new(rt.alloc())?;
-    let document = joined(rt.alloc())?;
-    goes_round(&rt, rt.alloc(), &mut store, &mut other, document.as_slice())
+fn a_document_of_every_kind_is_saved_as_it_was(rt: HostRuntime) {
+    goes_round(&rt, rt.alloc(), EVERY_KIND);
 }
 
-fn joined(alloc: Global) -> Result<Bytes, Fail> {
-    let mut document = Bytes::new(alloc);
-    for part in PARTS {
-        document.push_slice(*part)?;
-    }
-    Ok(document)
+fn goes_round(rt: &impl Abort, alloc: Global, document: &[u8]) {
+    let mut store = Store::new(alloc).expect(rt, "there is memory");
+    let mut other = Store::new(alloc).expect(rt, "there is memory");
+    let _report = store
+        .read_file(alloc, document, false)
+        .expect(rt, "the file is read");
+    deliver_last_first(rt, alloc, &store, &mut other);
+    is_saved_as(rt, alloc, &store, document);
+    is_saved_as(rt, alloc, &other, document);
 }
 
-fn goes_round(
-    rt: &impl Abort,
-    alloc: Global,
-    store: &mut Store,
-    other: &mut Store,
-    document: &[u8],
-) -> Result<(), Fail> {
-    store.read_file(alloc, document, false)?;
-    deliver_last_first(alloc, store, other)?;
-    assert_eq!(rt; store.save(alloc)?.as_slice(), document);
-    assert_eq!(rt; other.save(alloc)?.as_slice(), document);
-    Ok(())
+fn is_saved_as(rt: &impl Abort, alloc: Global, store: &Store, document: &[u8]) {
+    let saved = store.save(alloc).expect(rt, "there is memory");
+    assert_eq!(rt; saved.as_slice(), document);
 }
 
 /// Delivers the chunks of the changes of a store to another one, the last one first.
-fn deliver_last_first(alloc: Global, store: &Store, other: &mut Store) -> Result<(), Fail> {
-    let lines = store.history(alloc)?;
+fn deliver_last_first(rt: &impl Abort, alloc: Global, store: &Store, other: &mut Store) {
+    let lines = store.history(alloc).expect(rt, "there is memory");
     for line in lines.as_slice().iter().rev() {
-        let Some(chunk) = store.change(alloc, &line.hash)? else {
-            return Err(Fail::from("a change is missing"));
-        };
-        other.read_file(alloc, chunk.as_slice(), true)?;
+        let found = store
+            .change(alloc, &line.hash)
+            .expect(rt, "there is memory");
+        let chunk = found.expect(rt, "the change is held");
+        let _report = other
+            .read_file(alloc, chunk.as_slice(), true)
+            .expect(rt, "the chunk is read");
     }
-    Ok(())
 }

@@ -1,14 +1,12 @@
-//! Files of chunks that the reference encoder made, delivered to a store. A function that has a store of its own only
-//! lends it, since each of its ways out is proved to drop it well.
-ghost use Rattle.std.specs.Prelude.{◌≡◌, IfOk, All};
+//! Files of chunks that the reference encoder made, delivered to a store.
+ghost use Rattle.std.specs.Prelude.{All};
 ghost use Rattle.am_types.specs.Fine.{Fine};
 
-use crate::{Counts, LoadError, LoadFault, ReadFault, Rejected, Store, Why};
 use am_change::parse_change;
+use am_store::{Counts, LoadError, LoadFault, ReadFault, Rejected, Store, Why};
 use am_types::{Change, Hash, List, Twin};
 use std::alloc::Global;
 use std::process::Abort;
-use std::test::Fail;
 
 /// A change that sets the key "a" to 1.
 pub(crate) const FIRST: &[u8] = &[
@@ -109,77 +107,63 @@ const COUNTS: Counts = Counts {
 };
 
 #[test]
-fn files_are_delivered(rt: HostRuntime) -> Result<(), Fail> {
-    let mut store = Store::new(rt.alloc())?;
-    each_file(&rt, rt.alloc(), &mut store)
-}
-
-fn each_file(rt: &impl Abort, alloc: Global, store: &mut Store) -> Result<(), Fail> {
+fn files_are_delivered(rt: HostRuntime) {
+    let mut store = Store::new(rt.alloc()).expect(&rt, "there is memory");
     for (file, only_changes, told) in FILES {
-        assert_eq!(rt; read(alloc, store, *file, *only_changes), *told);
+        let read = read(&rt, rt.alloc(), &mut store, *file, *only_changes);
+        assert_eq!(rt; read, *told);
     }
-    assert_eq!(rt; counts(alloc, store)?, [COUNTS; 2]);
-    assert_eq!(rt; lengths(alloc, store)?, (2, 1, Some(SECOND_HASH)));
-    Ok(())
+    counts(&rt, rt.alloc(), &store);
+    lengths(&rt, rt.alloc(), &store);
 }
 
 fn read(
+    rt: &impl Abort,
     alloc: Global,
     store: &mut Store,
     file: &[u8],
     only_changes: bool,
 ) -> Result<Told, ReadFault> {
     let report = store.read_file(alloc, file, only_changes)?;
-    let waiting = store.waiting(alloc)?;
+    let waiting = store.waiting(alloc).expect(rt, "there is memory");
     let rejected = report.rejected.as_slice().first().copied();
     Ok((report.added, waiting.as_slice().first().copied(), rejected))
 }
 
 /// The counts of the store and of a copy.
-fn counts(alloc: Global, store: &Store) -> Result<[Counts; 2], Fail> {
-    let twin = store.copy(alloc)?;
-    Ok([store.counts(), twin.counts()])
+fn counts(rt: &impl Abort, alloc: Global, store: &Store) {
+    let twin = store.copy(alloc).expect(rt, "there is memory");
+    assert_eq!(rt; [store.counts(), twin.counts()], [COUNTS; 2]);
 }
 
 /// How many changes are closed, how many ancestors the first one has with itself, and the head.
-fn lengths(alloc: Global, store: &Store) -> Result<(usize, usize, Option<Hash>), Fail> {
-    let closed = store.closed(alloc)?.len();
-    let ancestors = store.ancestors(alloc, FIRST_HEAD)?.len();
-    let heads = store.graph().heads(alloc)?;
-    Ok((closed, ancestors, heads.as_slice().first().copied()))
+fn lengths(rt: &impl Abort, alloc: Global, store: &Store) {
+    let closed = store.closed(alloc).expect(rt, "there is memory");
+    assert_eq!(rt; closed.len(), 2);
+    let ancestors = store
+        .ancestors(alloc, FIRST_HEAD)
+        .expect(rt, "the head is held");
+    assert_eq!(rt; ancestors.len(), 1);
+    let heads = store.graph().heads(alloc).expect(rt, "there is memory");
+    assert_eq!(rt; heads.as_slice().first().copied(), Some(SECOND_HASH));
 }
 
 #[test]
-fn changes_are_delivered(rt: HostRuntime) -> Result<(), Fail> {
-    let mut store = Store::new(rt.alloc())?;
-    first_change(&rt, rt.alloc(), &mut store)
-}
-
-fn first_change(rt: &impl Abort, alloc: Global, store: &mut Store) -> Result<(), Fail> {
-    assert_eq!(rt; delivered(alloc, store)?, 1);
-    Ok(())
-}
-
-/// How many changes joined.
-fn delivered(alloc: Global, store: &mut Store) -> Result<u64, Fail> {
-    let changes = changes(alloc)?;
-    let report = store.deliver(alloc, changes)?;
-    Ok(report.added)
+fn changes_are_delivered(rt: HostRuntime) {
+    let mut store = Store::new(rt.alloc()).expect(&rt, "there is memory");
+    let changes = changes(&rt, rt.alloc());
+    let report = store
+        .deliver(rt.alloc(), changes)
+        .expect(&rt, "there is memory");
+    assert_eq!(rt; report.added, 1);
 }
 
 /// The first change alone.
-fn changes(alloc: Global) -> Result<List<Change>, Fail>
-    ensures { IfOk result (λ changes. All Fine changes) }
+fn changes(rt: &impl Abort, alloc: Global) -> List<Change>
+    ensures { All Fine result }
 {
-    let change = parse_change(alloc, FIRST_CONTENTS)?;
+    let change = parse_change(alloc, FIRST_CONTENTS).expect(rt, "it is a change");
     let mut changes = List::new(alloc);
-    changes.push(change)?;
-    Ok(changes)
-}
-
-#[test]
-fn no_list_of_changes_is_kept(rt: HostRuntime) -> Result<(), Fail> {
-    let store = Store::new(rt.alloc())?;
-    store.has_these_fields();
-    Ok(())
+    changes.push(change).expect(rt, "there is memory");
+    changes
 }

@@ -1,12 +1,12 @@
 //! Damaged documents: each bit turned, each front part, and runs that claim more rows than there may be. What is wrong
 //! with each was told by another program.
-use crate::saving_tests::{BOTH, ONE};
-use crate::{LoadError, LoadFault, ReadFault, Report, Store};
+use crate::saving::{BOTH, ONE};
+use crate::turning::{mended, turned};
 use am_doc::{DocFault, DocRef};
-use am_frame::{framed, next_frame};
+use am_frame::next_frame;
+use am_store::{LoadError, LoadFault, ReadFault, Report, Store};
 use std::alloc::Global;
 use std::process::Abort;
-use std::test::Fail;
 
 /// Each bit of a byte, the lowest first.
 const BITS: [u8; 8] = [1, 2, 4, 8, 16, 32, 64, 128];
@@ -86,29 +86,19 @@ fn fault_letter(fault: LoadFault) -> u8 {
 }
 
 /// What an empty store finds the file to be.
-fn letter(alloc: Global, file: &[u8]) -> Result<u8, Fail> {
-    let mut store = Store::new(alloc)?;
-    Ok(letter_of(store.read_file(alloc, file, false)))
-}
-
-/// The bytes with this bit of the byte at this place turned.
-fn turned(alloc: Global, bytes: &[u8], place: usize, bit: u8) -> Result<Vec<u8>, Fail> {
-    let mut damaged = Vec::new(alloc);
-    for (i, byte) in bytes.iter().enumerate() {
-        damaged.push(if i == place { *byte ^ bit } else { *byte })?;
-    }
-    Ok(damaged)
+fn letter(rt: &impl Abort, alloc: Global, file: &[u8]) -> u8 {
+    let mut store = Store::new(alloc).expect(rt, "there is memory");
+    letter_of(store.read_file(alloc, file, false))
 }
 
 #[test]
-fn a_turned_bit_is_found(rt: HostRuntime) -> Result<(), Fail> {
+fn a_turned_bit_is_found(rt: HostRuntime) {
     for damaged in DAMAGED {
-        finds_each_bit(&rt, rt.alloc(), damaged)?;
+        finds_each_bit(&rt, rt.alloc(), damaged);
     }
-    Ok(())
 }
 
-fn finds_each_bit(rt: &impl Abort, alloc: Global, damaged: &Damaged) -> Result<(), Fail> {
+fn finds_each_bit(rt: &impl Abort, alloc: Global, damaged: &Damaged) {
     let mut head = damaged.head.bytes();
     for (place, _) in damaged.document.iter().enumerate() {
         for bit in BITS {
@@ -117,55 +107,53 @@ fn finds_each_bit(rt: &impl Abort, alloc: Global, damaged: &Damaged) -> Result<(
                 4..=7 => b's',
                 _ => head.next().unwrap_or(b's'),
             };
-            let file = turned(alloc, damaged.document, place, bit)?;
-            assert_eq!(rt; letter(alloc, &file)?, want, "at byte {place}, bit {bit}");
-        }
-    }
-    Ok(())
-}
-
-#[test]
-fn a_turned_bit_is_found_where_the_checksum_is_right(rt: HostRuntime) -> Result<(), Fail> {
-    for damaged in DAMAGED {
-        finds_each_mended_bit(&rt, rt.alloc(), damaged)?;
-    }
-    Ok(())
-}
-
-fn finds_each_mended_bit(rt: &impl Abort, alloc: Global, damaged: &Damaged) -> Result<(), Fail> {
-    let contents = next_frame(damaged.document)?.contents;
-    let mut told = damaged.mended.bytes();
-    for (place, _) in contents.iter().enumerate() {
-        for bit in BITS {
-            let file = framed(alloc, 0, &turned(alloc, contents, place, bit)?)?;
-            let want = told.next().unwrap_or(b'?');
+            let file = turned(rt, alloc, damaged.document, place, bit);
             assert_eq!(rt;
-                letter(alloc, file.as_slice())?,
+                letter(rt, alloc, &file),
                 want,
                 "at byte {place}, bit {bit}"
             );
         }
     }
-    Ok(())
 }
 
 #[test]
-fn each_front_part_is_truncated(rt: HostRuntime) -> Result<(), Fail> {
+fn a_turned_bit_is_found_where_the_checksum_is_right(rt: HostRuntime) {
     for damaged in DAMAGED {
-        finds_each_front_part(&rt, rt.alloc(), damaged.document)?;
+        finds_each_mended_bit(&rt, rt.alloc(), damaged);
     }
-    Ok(())
 }
 
-fn finds_each_front_part(rt: &impl Abort, alloc: Global, document: &[u8]) -> Result<(), Fail> {
-    let mut front = Vec::new(alloc);
-    for byte in document {
-        let want = if front.is_empty() { b'a' } else { b't' };
-        assert_eq!(rt; letter(alloc, &front)?, want, "at {} bytes", front.len());
-        front.push(*byte)?;
+fn finds_each_mended_bit(rt: &impl Abort, alloc: Global, damaged: &Damaged) {
+    let frame = next_frame(damaged.document).expect(rt, "it is a chunk");
+    let mut told = damaged.mended.bytes();
+    for (place, _) in frame.contents.iter().enumerate() {
+        for bit in BITS {
+            let file = mended(rt, alloc, damaged.document, place, bit);
+            let want = told.next().unwrap_or(b'?');
+            assert_eq!(rt;
+                letter(rt, alloc, file.as_slice()),
+                want,
+                "at byte {place}, bit {bit}"
+            );
+        }
     }
-    assert_eq!(rt; letter(alloc, &front)?, b'a');
-    Ok(())
+}
+
+#[test]
+fn each_front_part_is_truncated(rt: HostRuntime) {
+    for damaged in DAMAGED {
+        finds_each_front_part(&rt, rt.alloc(), damaged.document);
+    }
+}
+
+fn finds_each_front_part(rt: &impl Abort, alloc: Global, document: &[u8]) {
+    for (len, _) in document.iter().enumerate() {
+        let front = document.get(..len).expect(rt, "it is shorter");
+        let want = if len == 0 { b'a' } else { b't' };
+        assert_eq!(rt; letter(rt, alloc, front), want, "at {len} bytes");
+    }
+    assert_eq!(rt; letter(rt, alloc, document), b'a');
 }
 
 /// The front of the contents of a document of one change, whose columns are runs.
@@ -190,20 +178,23 @@ const BETWEEN: [&[u8]; 8] = [
 ];
 
 #[test]
-fn runs_have_as_many_rows_as_there_may_be(rt: HostRuntime) -> Result<(), Fail> {
-    let most = of_rows(rt.alloc(), &[0x80, 0x80, 0x80, 0x02])?;
+fn runs_have_as_many_rows_as_there_may_be(rt: HostRuntime) {
+    let most = of_rows(&rt, rt.alloc(), &[0x80, 0x80, 0x80, 0x02]);
     assert!(rt; DocRef::read(&most).is_ok());
-    let more = of_rows(rt.alloc(), &[0x81, 0x80, 0x80, 0x02])?;
+    let more = of_rows(&rt, rt.alloc(), &[0x81, 0x80, 0x80, 0x02]);
     assert!(rt; matches!(DocRef::read(&more), Err(DocFault::BadDocument)));
-    Ok(())
 }
 
 /// The contents with so many rows.
-fn of_rows(alloc: Global, count: &[u8]) -> Result<Vec<u8>, Fail> {
-    let mut contents = RUNS.to_vec(alloc)?;
+fn of_rows(rt: &impl Abort, alloc: Global, count: &[u8]) -> Vec<u8> {
+    let mut contents = RUNS.to_vec(alloc).expect(rt, "there is memory");
     for piece in BETWEEN {
-        contents.extend_from_slice(count)?;
-        contents.extend_from_slice(piece)?;
+        contents
+            .extend_from_slice(count)
+            .expect(rt, "there is memory");
+        contents
+            .extend_from_slice(piece)
+            .expect(rt, "there is memory");
     }
-    Ok(contents)
+    contents
 }
