@@ -6,11 +6,11 @@ use Rattle.am_outside.specs.Counts.{raised}
 use Rattle.am_outside.specs.Files.{Files}
 use Rattle.am_script.specs.declared.Plan.{Plan}
 use Rattle.am_script.specs.declared.Plan.TheVariants.{ReadInput, Lines}
-use Rattle.am_cli.specs.declared.request.Request.{Request}
-use Rattle.am_cli.specs.declared.request.Request.TheVariants.{Do}
+use Rattle.am_session.specs.declared.Request.{Request}
+use Rattle.am_session.specs.declared.Request.TheVariants.{Do}
 use Rattle.am_cli.specs.Script.{all_asked}
-use Rattle.am_cli.specs.Replies.{is_refused}
-use Rattle.am_cli.specs.Machine.{State, first_state}
+use Rattle.am_session.specs.Replies.{is_refused}
+use Rattle.am_session.specs.Machine.{State, first_state}
 use Rattle.am_cli.specs.Carried.{Carried, Stopped}
 use Rattle.am_cli.specs.declared.halt.Halt.{Halt}
 use Rattle.am_cli.specs.declared.halt.Halt.TheVariants as halt

@@ -2,7 +2,8 @@
 ghost use Rattle.std.specs.Prelude.{◌≡◌, ◌≤◌, ◌<◌, ◌++◌, ◌+◌, ℕ, List, length, IfOk, IfSome, IsErrOf};
 ghost use Rattle.std.specs.Io.KnownBytes.{prepend_known, IsAtEnd};
 ghost use Rattle.am_outside.specs.Counts.{raised, Rose, RoseBy};
-ghost use Rattle.am_cli.specs.FirstFault.{Ended, is_err_at, is_failed_read};
+ghost use Rattle.am_session.specs.FirstFault.{Ended, is_err_at};
+ghost use Rattle.am_cli.specs.Faults.{is_failed_read};
 ghost use Rattle.am_cli.specs.Top.{IsWhole, input_of};
 
 use am_outside::{Failed, Source};
@@ -49,7 +50,7 @@ impl From<AllocError> for Unread {
 }
 
 // Adds the next piece to a script, and says how long it is: 0 at the end alone. A read is one call, and no other follows.
-#[tactic(auto, using(crate::proofs::FirstFault::call_went, crate::proofs::FirstFault::call_failed))]
+#[tactic(auto, using(am_session::proofs::FirstFault::call_went, am_session::proofs::FirstFault::call_failed))]
 fn read_piece<I: Source>(
     input: &mut I,
     buffer: &mut [u8],
@@ -72,7 +73,7 @@ fn read_piece<I: Source>(
 }
 
 /// The whole input, where it isn't too long. The first fault ends it.
-#[tactic(auto, using(crate::proofs::Source::left_start, crate::proofs::Source::left_more, crate::proofs::Source::rose_more, crate::proofs::Source::all_read, crate::proofs::Source::longer, crate::proofs::Source::counted_more, crate::proofs::Source::counted_end, crate::proofs::FirstFault::no_call, crate::proofs::FirstFault::ended_more))]
+#[tactic(auto, using(crate::proofs::Source::left_start, crate::proofs::Source::left_more, crate::proofs::Source::rose_more, crate::proofs::Source::all_read, crate::proofs::Source::longer, crate::proofs::Source::counted_more, crate::proofs::Source::counted_end, am_session::proofs::FirstFault::no_call, am_session::proofs::FirstFault::ended_more))]
 pub fn read_all<I: Source>(alloc: Global, input: &mut I) -> Result<Vec<u8>, Unread>
     ensures whole { IfOk result (λ script. IsWhole script.items (input_of (I.left input.old) (I.taken input.old)) (input_of (I.left input.new) (I.taken input.new))) }
     ensures bound { I.taken input.new ≤ I.taken input.old + (LONGEST + 1) }

@@ -1,20 +1,20 @@
 //! The top call.
 ghost use Rattle.std.specs.Prelude.{◌≡◌, ◌≢◌, ◌≤◌, ◌<◌, ◌+◌, ◌↔◌, ◌⊎◌, List as AList, length, IfOk, IfSome, IsErrOf, Some, None, Bool};
 ghost use Rattle.am_outside.specs.Counts.{Rose, RoseBy};
-ghost use Rattle.am_cli.specs.declared.request.Request.{Request as ARequest};
-ghost use Rattle.am_cli.specs.FirstFault.{Ended, is_err_at, is_failed_read, is_input_fault, is_file_fault, is_output_fault};
+ghost use Rattle.am_session.specs.declared.Request.{Request as ARequest};
+ghost use Rattle.am_session.specs.FirstFault.{Ended, is_err_at};
 ghost use Rattle.am_script.specs.Plans.{plan_of};
+ghost use Rattle.am_cli.specs.Faults.{is_failed_read, is_input_fault, is_file_fault, is_output_fault};
 ghost use Rattle.am_cli.specs.Top.{input_of, outside, stops_of, Asks, Finished, Broken, IsBefore, some_is_refused, halt_of};
 
 use crate::carry::carry_out;
 use crate::halt::Halt;
 use crate::input::{LONGEST, Unread, read_all};
-use crate::request::Request;
 use crate::requests::Requests;
 use crate::script::read_script;
-use crate::session::Session;
 use am_outside::{Folder, Sink, Source};
 use am_script::{Plan, PlanFault, plan};
+use am_session::{Request, Session};
 use am_types::{List, Text};
 use std::alloc::Global;
 

@@ -1,0 +1,17 @@
+pub mod Alike
+pub mod Ascending
+pub mod AtClock
+pub mod AtHashes
+pub mod Coming
+pub mod Delivering
+pub mod FirstFault
+pub mod Growth
+pub mod ListingLaws
+pub mod OneRun
+pub mod Owed
+pub mod Present
+pub mod PrintedText
+pub mod Pushed
+pub mod SameHeld
+pub mod SameView
+pub mod Texts

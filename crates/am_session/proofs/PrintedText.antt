@@ -1,0 +1,39 @@
+-- What is printed of entries.
+use Rattle.std.proofs.Common.{◌≡◌, ℕ, suc, ◌<◌, ◌≤◌, List, [], ◌∷◌, ◌++◌, true, false, not, Some, None, Result, refl, sym, ap, ◌∙◌, arith, cond}
+use Rattle.std.specs.Prelude.{nat_le, codes, All, IfOk, find}
+use Rattle.std.proofs.lemmas.Result.{IfOk-weaker}
+use Rattle.std.proofs.lemmas.Bool.Decides.{nat_tests}
+use Rattle.serde_json.specs.Data.{Data, depth}
+use Rattle.serde_json.specs.Written.{compact_text}
+use Rattle.am_types.specs.declared.Change.{Change}
+use Rattle.am_types.specs.declared.Hash.{Hash}
+use Rattle.am_types.specs.Operations.{all_operations}
+use Rattle.am_types.specs.Members.{Member, changes, holds}
+use Rattle.am_types.specs.Ancestors.{ancestors}
+use Rattle.am_types.specs.ValidSets.{Valid, IsValidSet}
+use Rattle.am_delivery.specs.Laws.{PartIsValid}
+use Rattle.am_types.specs.Replay.{replay}
+use Rattle.am_json.specs.Shown.{json_data}
+use Rattle.am_json.specs.declared.Form.{Form}
+use Rattle.am_session.specs.Replies.{newline, refused}
+use Rattle.am_session.specs.Reading.{printed, DEEPEST, visible, reading_by, reading_at}
+
+pub fits_text : (d : Data) → depth d ≤ 127 → printed d ≡ compact_text d ++ newline ∷ []
+fits_text d h = let fits : nat_le (depth d) DEEPEST ≡ true = grind (arith, nat_tests) in ap (λ b. cond b (compact_text d ++ newline ∷ []) (refused (codes "deep"))) fits
+
+pub deep_text : (d : Data) → 127 < depth d → printed d ≡ refused (codes "deep")
+deep_text d h = let deep : nat_le (depth d) DEEPEST ≡ false = grind (arith, nat_tests) in ap (λ b. cond b (compact_text d ++ newline ∷ []) (refused (codes "deep"))) deep
+
+-- where all hashes are held, none is unknown
+pub none_unknown : (C : List Member) (hs : List Hash) → All (λ h. holds C h ≡ true) hs → find (λ h. not (holds C h)) hs ≡ None
+none_unknown C [] held = refl
+none_unknown C (x ∷ xs) held =
+    let first : holds C x ≡ true = held 0 x (omega arith) in
+    ap (λ b. cond (not b) (Some x) (find (λ h. not (holds C h)) xs)) first ∙ none_unknown C xs (λ k d lt. held (suc k) d (omega arith))
+
+pub at_held : {E : Type 0} (r : Result (List ℕ) E) (form : Form) (hs : List Hash) (C : List Member) (cs : List Change) → cs ≡ changes (ancestors C hs) → All (λ h. holds C h ≡ true) hs
+    → IfOk r (λ reply. reply ≡ printed (json_data form (replay (all_operations cs)))) → IfOk r (λ reply. reply ≡ reading_at form hs C)
+at_held r form hs C cs are held = IfOk-weaker r _ _ (λ reply e. e ∙ ap (λ list. printed (json_data form (replay (all_operations list)))) are ∙ ap (λ found. reading_by found form (visible C hs)) (sym (none_unknown C hs held)))
+
+pub valid_part : PartIsValid → (C : List Member) (hs : List Hash) (cs : List Change) → Valid C → cs ≡ changes (ancestors C hs) → IsValidSet cs
+valid_part law C hs cs valid are = record { set = ancestors C hs; are = sym are; valid = law C hs valid }

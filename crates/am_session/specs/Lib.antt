@@ -1,0 +1,13 @@
+pub mod Request
+pub mod Replies
+pub mod Listing
+pub mod Apply
+pub mod Reading
+pub mod History
+pub mod Bench
+pub mod Session
+pub mod Views
+pub mod Stats
+pub mod Machine
+pub mod FirstFault
+pub mod Answered

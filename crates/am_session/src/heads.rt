@@ -1,0 +1,27 @@
+//! The commands that tell hashes of the store.
+ghost use Rattle.std.specs.Prelude.{◌≡◌, IfOk};
+ghost use Rattle.am_types.specs.Order.{hash_cmp, sorted_by};
+ghost use Rattle.am_types.specs.Members.{heads, hashes};
+ghost use Rattle.am_session.specs.Replies.{hash_list};
+
+use crate::replies::hash_list;
+use am_store::Store;
+use am_types::Bytes;
+use std::alloc::{AllocError, Global};
+
+/// The heads of the closed set, ascending.
+pub fn list_heads(alloc: Global, store: &Store) -> Result<Bytes, AllocError>
+    ensures { IfOk result (λ reply. reply ≡ hash_list (heads store.now.closed)) }
+{
+    let heads = store.graph().heads(alloc)?;
+    hash_list(alloc, heads.as_slice())
+}
+
+/// The waiting changes, ascending by hash.
+#[tactic(auto, using(crate::proofs::Ascending::sorted_ascending))]
+pub fn list_waiting(alloc: Global, store: &Store) -> Result<Bytes, AllocError>
+    ensures { IfOk result (λ reply. reply ≡ hash_list (sorted_by hash_cmp (hashes store.now.waiting))) }
+{
+    let waiting = store.waiting(alloc)?;
+    hash_list(alloc, waiting.as_slice())
+}

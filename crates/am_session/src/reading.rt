@@ -1,0 +1,93 @@
+//! Printing what is visible, read off the rows of the store's document.
+ghost use Rattle.std.specs.Prelude.{◌≡◌, ◌++◌, ◌∷◌, [], All, IfErr, IfOk, OnOk, Some, find, not, true};
+ghost use Rattle.am_types.specs.Ancestors.{ancestors};
+ghost use Rattle.am_types.specs.Members.{holds};
+ghost use Rattle.am_types.specs.EntryOrder.{IsInOrder};
+ghost use Rattle.am_graph.specs.Clocks.{IsClockOf};
+ghost use Rattle.am_graph.specs.Graphs.{MatchFault};
+ghost use Rattle.am_json.specs.Shown.{json_data};
+ghost use Rattle.am_session.specs.Replies.{newline};
+ghost use Rattle.am_session.specs.Reading.{printed, reading_at};
+
+use crate::replies::{refusal, unknown};
+use am_delivery::part_is_valid;
+use am_graph::{Clock, ClockFault};
+use am_json::{Form, JsonFault, JsonMaker, order_front};
+use am_replay::entries_are_in_order;
+use am_store::Store;
+use am_types::{Bytes, Hash};
+use am_view::Shown;
+use std::alloc::{AllocError, Global};
+
+// A text on a line of its own.
+fn ended(text: Bytes) -> Result<Bytes, AllocError>
+    ensures { IfOk result (λ line. line ≡ text ++ newline ∷ []) }
+{
+    let mut line = text;
+    line.push_slice(b"\n")?;
+    Ok(line)
+}
+
+/// The reply with the text of the entries that were pushed. One that nests too deep is refused.
+#[tactic(auto, using(crate::proofs::PrintedText::fits_text, crate::proofs::PrintedText::deep_text))]
+pub fn finished(alloc: Global, maker: JsonMaker) -> Result<Bytes, AllocError>
+    ensures { IfOk result (λ reply. reply ≡ printed (json_data maker.form maker.entries)) }
+{
+    match maker.finish(alloc) {
+        Ok(text) => ended(text),
+        Err(JsonFault::TooDeep) => refusal(alloc, "deep"),
+        Err(JsonFault::NoMemory) => Err(AllocError),
+    }
+}
+
+// The entries that are handed out, pushed as they come.
+fn pushed(alloc: Global, form: Form, shown: Shown<'_>) -> Result<JsonMaker, AllocError>
+    requires { IsInOrder shown }
+    ensures form { IfOk result (λ maker. maker.form ≡ form) }
+    ensures entries { IfOk result (λ maker. maker.entries ≡ shown.entry) }
+{
+    order_front();
+    let mut maker = JsonMaker::new(alloc, form);
+    let mut rest = shown;
+    while let Some(entry) = rest.next() {
+        maker.push(alloc, entry)?;
+    }
+    Ok(maker)
+}
+
+// The reply with the text of the entries that are handed out.
+fn print(alloc: Global, form: Form, shown: Shown<'_>) -> Result<Bytes, AllocError>
+    requires { IsInOrder shown }
+    ensures { IfOk result (λ reply. reply ≡ printed (json_data form shown.entry)) }
+{
+    let maker = pushed(alloc, form, shown)?;
+    finished(alloc, maker)
+}
+
+// The clock of the ancestors of these hashes.
+fn clock_at(alloc: Global, hashes: &[Hash], store: &Store) -> Result<Clock, ClockFault>
+    ensures ok { IfOk result (λ clock. IsClockOf (ancestors store.now.closed hashes.now) clock) }
+    ensures held { OnOk result (All (λ h. holds store.now.closed h ≡ true) hashes.now) }
+    ensures unknown { IfErr result (λ fault. MatchFault fault (λ h. find (λ k. not (holds store.now.closed k)) hashes.now ≡ Some h)) }
+{
+    store.graph().clock(alloc, hashes)
+}
+
+/// What is visible at these hashes. Of the changes nothing is decoded, and each entry is copied as it comes.
+pub fn read_at(
+    alloc: Global,
+    form: Form,
+    hashes: &[Hash],
+    store: &Store,
+) -> Result<Bytes, AllocError>
+    ensures { IfOk result (λ reply. reply ≡ reading_at form hashes.now store.now.closed) }
+{
+    part_is_valid();
+    entries_are_in_order();
+    let _graph = store.graph();
+    match clock_at(alloc, hashes, store) {
+        Ok(clock) => print(alloc, form, Shown::over(store.doc(), &clock)),
+        Err(ClockFault::UnknownHead(hash)) => unknown(alloc, &hash),
+        Err(ClockFault::NoMemory) => Err(AllocError),
+    }
+}

@@ -1,0 +1,43 @@
+//! The command that tells how much is held.
+ghost use Rattle.std.specs.Prelude.{◌≡◌, length, IfOk};
+ghost use Rattle.am_types.specs.Documents.{table};
+ghost use Rattle.am_doc.specs.Contents.{body};
+ghost use Rattle.am_session.specs.Stats.{stats_line, stats_text};
+
+use crate::replies::push_number;
+use crate::session::Session;
+use am_store::{Counts, Store};
+use am_types::Bytes;
+use std::alloc::{AllocError, Global};
+
+// How long the contents of the document are.
+fn contents_length(store: &Store) -> u64
+    ensures { result ≡ length (body (table store.now.closed)) }
+{
+    store.contents().len() as u64
+}
+
+// The line that tells these numbers.
+fn stats_line(alloc: Global, counts: Counts, bytes: u64, hits: u64) -> Result<Bytes, AllocError>
+    ensures { IfOk result (λ line. line ≡ stats_line counts bytes hits) }
+{
+    let mut line = Bytes::new(alloc);
+    push_number(alloc, &mut line, "ok changes ", counts.changes)?;
+    push_number(alloc, &mut line, " operations ", counts.operations)?;
+    push_number(alloc, &mut line, " preds ", counts.preds)?;
+    push_number(alloc, &mut line, " links ", counts.links)?;
+    push_number(alloc, &mut line, " waiting ", counts.waiting)?;
+    push_number(alloc, &mut line, " bytes ", bytes)?;
+    push_number(alloc, &mut line, " hits ", hits)?;
+    line.push_slice(b"\n")?;
+    Ok(line)
+}
+
+/// How much the store holds, how long its document is, and how often a view was found.
+pub fn tell_stats(alloc: Global, session: &Session) -> Result<Bytes, AllocError>
+    ensures { IfOk result (λ reply. reply ≡ stats_text session.now.kept session.now.views.hits) }
+{
+    let counts = session.store().counts();
+    let bytes = contents_length(session.store());
+    stats_line(alloc, counts, bytes, session.hits())
+}
