@@ -119,6 +119,15 @@ past_equal low high value end x k list v e b =
 pub front_between : (low high value : ℤ) (x : Option ℤ) (k : ℕ) (list : List (Option ℤ)) → take k list ≡ replicate k x → AllBetween low high (sums_from value list) → AllBetween low high (sums_from value (replicate k x))
 front_between low high value x k list e h = (all_left _ (sums_from value (replicate k x)) _ (subst (AllBetween low high) (past value x k list e) h)).0
 
+pub alike_taken : (k : ℕ) (x : Option ℤ) (list rest : List (Option ℤ)) → list ≡ replicate k x ++ rest → (take k list ≡ replicate k x) × (drop k list ≡ rest)
+alike_taken zero x list rest e = (refl, e)
+alike_taken (suc k) x [] rest e = absurd (cc)
+alike_taken (suc k) x (y ∷ list) rest e =
+    let q : y ≡ x = cc in
+    let t : list ≡ replicate k x ++ rest = cc in
+    let w = alike_taken k x list rest t in
+    (ap (λ l. y ∷ l) w.0 ∙ ap (λ z. z ∷ replicate k x) q, w.1)
+
 -- ---- for `skip`
 
 pub take_fewer : (j k : ℕ) (x : Option ℤ) (list : List (Option ℤ)) → j ≤ k → take k list ≡ replicate k x → take j list ≡ replicate j x

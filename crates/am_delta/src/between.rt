@@ -27,17 +27,38 @@ fn end_between(value: i64, difference: i64, k: u64, low: i64, high: i64) -> Opti
     }
 }
 
+// The sum after one step, if that is between.
+fn next_between(value: i64, difference: i64, low: i64, high: i64) -> Option<i64>
+    ensures some { IfSome result (λ end. (end ≡ value +ℤ pos 1 *ℤ difference) × (low ≤ℤ end) × (end ≤ℤ high)) }
+    ensures none { IfNone result (low ≤ℤ (value +ℤ pos 1 *ℤ difference) → (value +ℤ pos 1 *ℤ difference) ≤ℤ high → ⊥) }
+{
+    match value.checked_add(difference) {
+        None => None,
+        Some(end) => {
+            if end < low || end > high {
+                return None;
+            }
+            Some(end)
+        }
+    }
+}
+
 fn number_between(value: i64, difference: i64, k: u64, low: i64, high: i64) -> Option<i64>
     requires { 1 ≤ k }
     ensures some { IfSome result (λ end. (end ≡ value +ℤ pos k *ℤ difference) × AllBetween low high (sums_from value (replicate k (Some difference)))) }
     ensures none { IfNone result (AllBetween low high (sums_from value (replicate k (Some difference))) → ⊥) }
 {
-    match end_between(value, difference, 1, low, high) {
+    match next_between(value, difference, low, high) {
         None => None,
-        Some(_) => match end_between(value, difference, k, low, high) {
-            None => None,
-            Some(end) => Some(end),
-        },
+        Some(first) => {
+            if k == 1 {
+                return Some(first);
+            }
+            match end_between(value, difference, k, low, high) {
+                None => None,
+                Some(end) => Some(end),
+            }
+        }
     }
 }
 
@@ -58,12 +79,11 @@ pub fn stays_between(mut differences: SignedCursor<'_>, low: i64, high: i64) -> 
     ensures { IsTrue result ↔ AllBetween low high (sums_from (pos 0) differences.entry) }
 {
     let mut value = 0i64;
-    while let Some((difference, k)) = differences.like() {
+    while let Some((difference, k)) = differences.next_alike_within(u64::MAX) {
         match all_between(value, difference, k, low, high) {
             None => return false,
             Some(end) => value = end,
         }
-        differences.skip(k);
     }
     true
 }

@@ -11,6 +11,9 @@ pub fn value_after(value: i64, difference: Option<i64>, k: u64) -> i64
     requires { FitsSigned w64 (sum_after value difference k) }
     ensures { result ≡ sum_after value difference k }
 {
+    if k == 0 {
+        return value;
+    }
     match difference {
         None => value,
         Some(difference) => match times(k, difference) {
@@ -29,12 +32,10 @@ pub fn skipped(differences: &mut SignedCursor<'_>, value: i64, n: u64) -> i64
     let mut value = value;
     let mut n = n;
     while n > 0 {
-        match differences.like() {
+        match differences.next_alike_within(n) {
             None => return value,
             Some((difference, k)) => {
-                let k = k.min(n);
                 value = value_after(value, difference, k);
-                differences.skip(k);
                 n -= k;
             }
         }

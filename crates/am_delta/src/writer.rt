@@ -134,6 +134,9 @@ impl DeltaWriter {
         if self.failed {
             return Err(AllocError);
         }
+        if count == 0 {
+            return Ok(());
+        }
         self.failed = true;
         put_alike(&mut self.differences, &mut self.item, difference, count)?;
         self.last = value_after(self.last, difference, count);

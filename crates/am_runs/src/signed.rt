@@ -75,17 +75,18 @@ impl<'a> SignedCursor<'a> {
         }
     }
 
-    /// Leaves out the next n numbers, or all where fewer are left. A run costs one step, however many it has; each item of a literal run is read.
+    /// Leaves out the next n numbers, or all where fewer are left. A run costs two steps at most, however many it has; each
+    /// item of a literal run is read.
     pub fn skip(&mut self, n: u64)
         ensures { self.new ≡ drop n self.old }
     {
-        if n <= self.at.copies {
-            self.at.copies -= n;
-            return;
+        let mut n = n;
+        while n > 0 {
+            match self.next_alike_within(n) {
+                None => return,
+                Some((_, k)) => n -= k,
+            }
         }
-        let mut runs = runs_from::<SignedItem>(&self.at);
-        runs.skip(n - self.at.copies);
-        *self = numbers_of(&runs);
     }
 
     /// The next value, and how often it comes next at least. It goes on by none.

@@ -1,18 +1,6 @@
-use Rattle.std.proofs.Common.{arith, ap, ◌∙◌, ◌-◌, drop}
-use Rattle.am_leb.specs.Leb.{unsigned_value}
-use Rattle.am_runs.specs.Items.{unsigned_end}
-use Rattle.am_runs.specs.Typed.{unsigned_numbers}
-use Rattle.am_runs.specs.Counters.{entries_from}
-use Rattle.am_runs.proofs.Counted.{drop_copies, drop_more}
+use Rattle.std.proofs.Common.{sym, ap, ◌∙◌, drop}
+use Rattle.am_runs.proofs.Taken.{drop_past}
 use Rattle.am_runs.proofs.unsigned.UnsignedCursor.skip.Goals as goal
 
-pub returns-then-n-self : goal.returns-then-n-self
-returns-then-n-self c =
-    let at = c.self.inside.at in
-    drop_copies unsigned_value c.args.n at.copies c.self.inside.value (entries_from unsigned_end at.literal at.left at.rest.now) (omega arith) ∙ ap (drop c.args.n) c.self.view_is
-
-pub returns : goal.returns
-returns c =
-    let at = c.self.inside.at in
-    c.self-2.view_is ∙ c.numbers_of.ensures ∙ ap unsigned_numbers c.skip.ensures ∙ ap (λ l. unsigned_numbers (drop (c.args.n - at.copies) l)) c.runs_from-runs.ensures
-    ∙ drop_more unsigned_value c.args.n at.copies c.self.inside.value (entries_from unsigned_end at.literal at.left at.rest.now) (omega arith) ∙ ap (drop c.args.n) c.self.view_is
+pub loop-n-preserved : goal.loop-n-preserved
+loop-n-preserved c = drop_past c.loop-n.n c.in-Some.k _ c.next_alike_within.new.self c.in-Some.ensures.next.1 ∙ ap (drop c.loop-n.n) (sym c.in-Some.ensures.next.2) ∙ c.loop-n.invariant
