@@ -20,7 +20,7 @@ use Rattle.am_types.proofs.Orders.{id_total, same_id-true}
 use Rattle.am_types.proofs.Rising.{AboveNone, IsSorted-rises, Rises, Rises-sorted_by, filter-sorted_by, sorted_by-rising}
 use Rattle.am_types.proofs.SameLaws.{same_object-true}
 use Rattle.am_laws.proofs.Ancestry.{Contains-from_filter}
-use Rattle.am_merge.specs.Naming.{Named, is_named, key_cmp, named_cmp, named_key}
+use Rattle.am_merge.specs.Naming.{IsSeam, Named, is_named, key_cmp, named_cmp, named_key}
 use Rattle.am_merge.proofs.Lists.{filter-filter, filter-map, filter_within}
 use Rattle.am_merge.proofs.Places.{object_total}
 
@@ -42,7 +42,7 @@ le_index Less = refl
 le_index Equal = refl
 le_index Greater = refl
 
-lt_le : (r : Ordering) → is_lt r ≡ true → is_le r ≡ true
+pub lt_le : (r : Ordering) → is_lt r ≡ true → is_le r ≡ true
 lt_le Less t = refl
 lt_le Equal t = refl
 lt_le Greater t = t
@@ -86,6 +86,30 @@ module _ {X : Type 0} (f : X → Named) (k : ObjId × OpId) where
 
   pub parted_up_to : (xs : List X) (ys : List Named) → map f xs ≡ sorted_by named_cmp ys → IsPartitionedBy (λ x. is_le (key_cmp (named_key (f x)) k)) xs
   parted_up_to xs ys e = subst (λ (p : X → Bool). IsPartitionedBy p xs) (λ i x. sym (le_index (key_cmp (named_key (f x)) k)) i) (IsPartitionedBy-ltb rank xs 2 (rising xs ys e))
+
+-- ---- a place with the test right before it, and not at it
+
+false_unless : (b : Bool) → (b ≡ true → ⊥) → b ≡ false
+false_unless true f = absurd (f refl)
+false_unless false f = refl
+
+module _ {X : Type 0} (p : X → Bool) (xs : List X) (k : ℕ) (parted : IsPartitionedBy p xs) where
+  behind : ((d : X) → k < length xs → p (get_or xs k d) ≡ false) → AllWithin (λ x. p x ≡ false) xs k (length xs)
+  behind h j d low high = false_unless (p (get_or xs j d)) (λ t. both_ways (p (get_or xs k d)) (h d (omega arith)) (parted k j d low high t))
+
+  pub at_seam : IsSeam p xs k → IsPartitionPoint (λ x. p x ≡ true) (λ x. p x ≡ false) xs k
+  at_seam s = (λ j d low high. parted j (k - 1) d (omega arith) (let m = s.0 in omega arith) (s.1 (k - 1) d (omega arith)), behind s.2)
+
+  -- where what is less ends, and each from there on holds
+  pub at_end : (r : X → Bool) (first : ℕ) → ((x : X) → r x ≡ true → p x ≡ true) → IsPartitionPoint (λ x. r x ≡ true) (λ x. r x ≡ false) xs first
+      → AllWithin (λ x. p x ≡ true) xs first k → ((d : X) → k < length xs → p (get_or xs k d) ≡ false) → IsPartitionPoint (λ x. p x ≡ true) (λ x. p x ≡ false) xs k
+  at_end r first up low within h = (all, behind h)
+    where
+      all : AllWithin (λ x. p x ≡ true) xs 0 k
+      all j d a b = elim (cases_lt j first) [
+        | inl l ↦ up (get_or xs j d) (low.0 j d a l)
+        | inr g ↦ within j d g b
+      ]
 
 -- ---- cut where a test fails
 

@@ -6,9 +6,10 @@
 --     references A       the operations of A that name elements, beside these
 --     predecessors A     the operations of A, beside each of their predecessors; no object is told
 --     AreTables A t      t has both, sorted: those of `hanging A`, and of A
+--     IsSeam p xs k      p holds right before the place k of xs, and not there
 --     counters_in ns     the counters of the ids that are named
 --     AreCounters t cs   cs are the counters that both tables name, ascending
-use Rattle.std.specs.Prelude.{ℕ, Bool, ◌≡◌, ◌&&◌, List, [], ◌∷◌, ◌++◌, map, IsPermutation}
+use Rattle.std.specs.Prelude.{ℕ, Bool, true, false, ◌≡◌, ◌≤◌, ◌<◌, ◌+◌, ◌&&◌, List, [], ◌∷◌, ◌++◌, length, map, slice_index_or, IsPermutation}
 use Rattle.std.specs.List.{flat_map}
 use Rattle.std.specs.List.Sorted.{IsSorted}
 use Rattle.std.specs.Ordering.{nat_cmp, on, then_cmp}
@@ -77,3 +78,9 @@ counters_in ns = map (λ n. n.id.counter) ns
 pub record AreCounters (t : Tables) (cs : List ℕ) : Type 0 where
   pub ascend : IsSorted nat_cmp cs
   pub all : IsPermutation (counters_in t.named.items ++ counters_in t.hanging.items) cs
+
+abbrev pub IsSeam : {X : Type 0} → (X → Bool) → List X → ℕ → Type 0
+IsSeam {X} p xs k =
+    (k ≤ length xs)
+    × ((j : ℕ) (d : X) → j + 1 ≡ k → p (slice_index_or xs j d) ≡ true)
+    × ((d : X) → k < length xs → p (slice_index_or xs k d) ≡ false)

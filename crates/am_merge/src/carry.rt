@@ -226,6 +226,9 @@ fn copy_rows(writer: &mut RowWriter, from: &mut RowCursor<'_>, n: u64) -> Result
     ensures ok { OnOk result (IfSome writer.old.1 (λ rows. writer.new.1 ≡ Some (rows ++ carried (copies n) from.old))) }
     ensures behind { OnOk result (from.new ≡ drop (taking (copies n)) from.old) }
 {
+    if n == 0 {
+        return Ok(());
+    }
     writer.take(from, n)?;
     Ok(())
 }

@@ -1,11 +1,14 @@
 //! What added operations name, in tables that are searched by it.
-ghost use Rattle.std.specs.Prelude.{◌≡◌, ◌≤◌, ◌∷◌, ◌++◌, [], List, filter, length, map, reverse, slice_range, IfOk, OnOk};
+ghost use Rattle.std.specs.Prelude.{◌≡◌, ◌≤◌, ◌<◌, ◌∷◌, ◌++◌, [], List, false, filter, length, map, reverse, slice_index_or, slice_range, true, IfOk, OnOk};
+ghost use Rattle.std.specs.List.{AllWithin};
+ghost use Rattle.std.specs.List.Sorted.{IsPartitionPoint, IsPartitionedBy};
 ghost use Rattle.std.specs.Ordering.{is_le, is_lt, ordering_then};
 ghost use Rattle.am_types.specs.Order.{bytes_cmp, object_cmp, sorted_by};
 ghost use Rattle.am_types.specs.Views.{id_of, object_of};
 ghost use Rattle.am_places.specs.Numbered.{operation_of};
-ghost use Rattle.am_merge.specs.Naming.{Named, is_named, key_cmp, named_cmp, named_key, named_of, naming_each, predecessors, reference, references};
+ghost use Rattle.am_merge.specs.Naming.{IsSeam, Named, is_named, key_cmp, named_cmp, named_key, named_of, naming_each, predecessors, reference, references};
 ghost use Rattle.am_merge.specs.Walk.{gives_value, hanging, inserts};
+ghost use Rattle.am_merge.specs.declared.naming.Naming.{Naming as ANaming};
 
 use am_places::Numbered;
 use am_types::{IdRef, Key, ObjRef, compare_objects};
@@ -179,21 +182,68 @@ fn names_up_to(n: &Naming<'_>, obj: ObjRef<'_>, id: IdRef<'_>) -> bool
     compare_named(n, obj, id).is_le()
 }
 
-/// From where to where a sorted table names this id in this object.
-pub fn range_of(table: &[Naming<'_>], obj: ObjRef<'_>, id: IdRef<'_>) -> (usize, usize)
+// Whether what names less ends here.
+fn is_first(table: &[Naming<'_>], at: usize, obj: ObjRef<'_>, id: IdRef<'_>) -> bool
+    ensures { result ≡ true → IsSeam (λ n. is_lt (key_cmp (named_key (named_of n)) (object_of obj.entry, id_of id.entry))) table.now at }
+{
+    if at > table.len() {
+        return false;
+    }
+    if at > 0 && !names_less(&table[at - 1], obj, id) {
+        return false;
+    }
+    at == table.len() || !names_less(&table[at], obj, id)
+}
+
+// From where a table names this id, which may be near a place, and else is sought.
+fn first_near(table: &[Naming<'_>], near: usize, obj: ObjRef<'_>, id: IdRef<'_>) -> usize
+    ensures bound { result ≤ length table.now }
+    ensures first { IsPartitionedBy (λ n. is_lt (key_cmp (named_key (named_of n)) (object_of obj.entry, id_of id.entry))) table.now
+        → IsPartitionPoint (λ n. is_lt (key_cmp (named_key (named_of n)) (object_of obj.entry, id_of id.entry)) ≡ true) (λ n. is_lt (key_cmp (named_key (named_of n)) (object_of obj.entry, id_of id.entry)) ≡ false) table.now result }
+{
+    if is_first(table, near, obj, id) {
+        return near;
+    }
+    table.partition_point(|n| names_less(n, obj, id))
+}
+
+// Up to where a table names this id, from its first place on: each place that does is looked at.
+fn end_from(table: &[Naming<'_>], first: usize, obj: ObjRef<'_>, id: IdRef<'_>) -> usize
+    requires { first ≤ length table.now }
+    ensures order { first ≤ result }
+    ensures bound { result ≤ length table.now }
+    ensures within { AllWithin (λ n. is_le (key_cmp (named_key (named_of n)) (object_of obj.entry, id_of id.entry)) ≡ true) table.now first result }
+    ensures behind { (d : ANaming) → result < length table.now → is_le (key_cmp (named_key (named_of (slice_index_or table.now result d))) (object_of obj.entry, id_of id.entry)) ≡ false }
+{
+    let mut last = first;
+    while last < table.len() && names_up_to(&table[last], obj, id) {
+        last += 1;
+    }
+    last
+}
+
+/// From where to where a sorted table names this id in this object. A place that may be the first is looked at before it is
+/// sought.
+pub fn range_of(table: &[Naming<'_>], near: usize, obj: ObjRef<'_>, id: IdRef<'_>) -> (usize, usize)
     ensures order { result.0 ≤ result.1 }
     ensures bound { result.1 ≤ length table.now }
     ensures named { (xs : List Named) → map named_of table.now ≡ sorted_by named_cmp xs → map named_of (slice_range table.now result.0 result.1) ≡ filter (is_named (object_of obj.entry) (id_of id.entry)) xs }
 {
-    let first = table.partition_point(|n| names_less(n, obj, id));
-    let last = table.partition_point(|n| names_up_to(n, obj, id));
-    (first, last.max(first))
+    let first = first_near(table, near, obj, id);
+    let last = end_from(table, first, obj, id);
+    (first, last)
 }
 
-/// What a sorted table has of those that name this id in this object.
-pub fn named_in<'t, 'a>(table: &'t [Naming<'a>], obj: ObjRef<'_>, id: IdRef<'_>) -> &'t [Naming<'a>]
+/// What a sorted table has of those that name this id in this object, sought near a place, which is moved behind them.
+pub fn named_in<'t, 'a>(
+    table: &'t [Naming<'a>],
+    near: &mut usize,
+    obj: ObjRef<'_>,
+    id: IdRef<'_>,
+) -> &'t [Naming<'a>]
     ensures { (xs : List Named) → map named_of table.now ≡ sorted_by named_cmp xs → map named_of result.now ≡ filter (is_named (object_of obj.entry) (id_of id.entry)) xs }
 {
-    let range = range_of(table, obj, id);
+    let range = range_of(table, *near, obj, id);
+    *near = range.1;
     &table[range.0..range.1]
 }

@@ -48,6 +48,7 @@ fn start<'a>(alloc: Global, operations: &[Numbered<'a>]) -> Result<Walk<'a>, All
         skipped: 0,
         waiting,
         left: MOST,
+        near: 0,
     })
 }
 
