@@ -19,3 +19,4 @@ pub mod AboveLaws
 pub mod CanonicalLaws
 pub mod Spelled
 pub mod ListPlaces
+pub mod Stretches

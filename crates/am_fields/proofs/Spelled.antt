@@ -1,5 +1,5 @@
 -- Canonical columns spell what they hold.
-use Rattle.std.proofs.Common.{◌≡◌, ℕ, zero, suc, ◌+◌, ◌*◌, ◌<◌, ◌≤◌, ◌^◌, List, [], ◌∷◌, ◌++◌, length, map, refl, ap, arith, sym, ◌∙◌, subst, Option, Some, None, Bool, true, false, inl, inr, ⊎_elim}
+use Rattle.std.proofs.Common.{◌≡◌, ℕ, zero, suc, ◌<◌, ◌≤◌, ◌^◌, List, [], ◌∷◌, length, map, refl, ap, arith, sym, subst, Option, Some, None, Bool, inl, inr, ⊎_elim}
 use Rattle.std.specs.Prelude.{ℤ, pos, neg_ℤ, slice_get, replicate, IfSome, IsUtf8}
 use Rattle.std.specs.Option.{option_map}
 use Rattle.std.specs.List.{flat_map, AllByRecursion}
@@ -7,7 +7,7 @@ use Rattle.std.proofs.lemmas.List.{length-append, length-map}
 use Rattle.am_leb.specs.Leb.{uleb, leb}
 use Rattle.am_runs.specs.Items.{IsItem, unsigned_end, text_end, text_spelling}
 use Rattle.am_runs.specs.Runs.{Run, Repeat, Literal, Nulls, expansion, bytes_of, JoinsRuns}
-use Rattle.am_runs.specs.Canonical.{Canon, AreNulls, canonical_bytes}
+use Rattle.am_runs.specs.Canonical.{AreNulls, canonical_bytes}
 use Rattle.am_runs.proofs.Existing.{canonical_bytes-Canon}
 use Rattle.am_runs.proofs.Spellings.{Spells-from_canon}
 use Rattle.am_delta.specs.Deltas.{AreMiddling, canonical_delta_bytes}

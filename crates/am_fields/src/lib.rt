@@ -54,4 +54,4 @@ pub use text_writer::TextWriter;
 pub use texts::TextColumn;
 pub use times::TimeColumn;
 pub use values::ValueColumns;
-pub use wholes::WholeColumn;
+pub use wholes::{Stretch, WholeColumn};

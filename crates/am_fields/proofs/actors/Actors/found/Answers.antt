@@ -1,4 +1,4 @@
-use Rattle.std.proofs.Common.{◌≡◌, ◌∷◌, ◌-◌, ◌+◌, suc, List, ℕ, drop, IfSome, IsTrue, is_some, subst, sym, arith, rules}
+use Rattle.std.proofs.Common.{◌≡◌, ◌∷◌, ◌-◌, List, ℕ, drop, IfSome, IsTrue, is_some, subst, arith, rules}
 use Rattle.am_fields.proofs.ListPlaces.{found_behind}
 use Rattle.am_fields.proofs.actors.Actors.found.Goals as goal
 

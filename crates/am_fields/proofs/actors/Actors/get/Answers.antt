@@ -1,4 +1,4 @@
-use Rattle.std.proofs.Common.{◌≡◌, ◌∷◌, List, ℕ, drop, IfSome, IsTrue, is_some, subst, sym, rules}
+use Rattle.std.proofs.Common.{◌≡◌, ◌∷◌, List, ℕ, drop, IfSome, IsTrue, is_some, subst, rules}
 use Rattle.am_fields.proofs.ListPlaces.{found_here, found_is}
 use Rattle.am_fields.proofs.actors.Actors.get.Goals as goal
 

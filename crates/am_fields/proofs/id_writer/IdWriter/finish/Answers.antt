@@ -1,4 +1,4 @@
-use Rattle.std.proofs.Common.{length, arith}
+use Rattle.std.proofs.Common.{arith}
 use Rattle.std.proofs.lemmas.List.{length-map}
 use Rattle.am_fields.specs.Layout.{id_counter}
 use Rattle.am_fields.proofs.CanonicalLaws.{numbers_canonical, deltas_canonical}

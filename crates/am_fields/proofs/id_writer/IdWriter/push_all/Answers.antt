@@ -1,5 +1,4 @@
-use Rattle.std.proofs.Common.{◌++◌, map, option_map, refl, ap, ◌∙◌}
-use Rattle.std.specs.Prelude.{Result, Ok, Err}
+use Rattle.std.proofs.Common.{map, option_map, refl, ap, ◌∙◌}
 use Rattle.std.proofs.lemmas.List.{map-append}
 use Rattle.am_fields.specs.Columns.{place_of}
 use Rattle.am_fields.specs.Layout.{id_actor, id_counter}

@@ -1,4 +1,4 @@
-use Rattle.std.proofs.Common.{◌≡◌, ◌≤◌, drop, length}
+use Rattle.std.proofs.Common.{◌≡◌, ◌≤◌, drop}
 use Rattle.am_fields.proofs.ids.IdColumns.pass.Given as goal
 
 abbrev pub invariant-loop-passed : goal.invariant-loop-passed
