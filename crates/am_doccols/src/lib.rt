@@ -11,7 +11,6 @@ mod meta_columns;
 mod meta_finished;
 mod meta_writer;
 mod metas;
-mod passing;
 mod row;
 mod row_writer;
 mod rows;
