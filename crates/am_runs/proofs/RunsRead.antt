@@ -127,3 +127,8 @@ all_read end reads bytes rest total w e =
       (w.runs, w.each, b, ap (λ s. entries end total (at_start s)) b ∙ entries-runs end reads w.runs w.each total w.count),
       subst (λ s. HasEntries end total (at_start s)) (sym b) (HasEntries-runs end reads w.runs w.each total w.count),
     )
+
+-- what bytes are known to join is read of them
+pub known_read : (end : List ℕ → Option ℕ) → ReadsItems end → (bytes : List ℕ) (list : List (Option (List ℕ))) (count : ℕ) → JoinsRuns end bytes list → length list ≡ count → JoinsRuns end bytes (entries end count (at_start bytes)) × HasEntries end count (at_start bytes)
+known_read end reads bytes list count j n =
+    all_read end reads bytes [] count (record { runs = j.0; each = j.1; front = j.2 ∙ sym (append-nil (flat_map bytes_of j.0)); count = sym n ∙ ap length j.3 }) refl

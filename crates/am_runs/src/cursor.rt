@@ -66,6 +66,24 @@ impl<'a, K: Item> RunCursor<'a, K> {
         })
     }
 
+    /// The cursor before the first of so many entries, which the bytes are known to join. Nothing is read.
+    pub fn spelled(bytes: &'a [u8], count: u64) -> Self
+        requires { (list : List (Option (List ℕ))) × JoinsRuns K.end_of bytes.now list × (length list ≡ count) }
+        ensures spelled { JoinsRuns K.end_of bytes.now result }
+        ensures count { length result ≡ count }
+    {
+        RunCursor {
+            at: Position {
+                kind: Kind::Nulls,
+                count: 0,
+                item: &bytes[..0],
+                rest: bytes,
+            },
+            left: count,
+            of: PhantomData,
+        }
+    }
+
     /// How many entries are left.
     pub fn left(&self) -> u64
         ensures { result ≡ length self.now }

@@ -58,6 +58,16 @@ impl<'a> SignedCursor<'a> {
         }
     }
 
+    /// The cursor before the first of so many numbers, which the bytes are known to join. Nothing is read.
+    pub fn spelled(bytes: &'a [u8], count: u64) -> Self
+        requires { (values : List (Option ℤ)) × JoinsSigned bytes.now values × (length values ≡ count) }
+        ensures spelled { JoinsSigned bytes.now result }
+        ensures count { length result ≡ count }
+    {
+        let runs = RunCursor::spelled(bytes, count);
+        numbers_of(&runs)
+    }
+
     /// How many numbers are left.
     pub fn left(&self) -> u64
         ensures { result ≡ length self.now }

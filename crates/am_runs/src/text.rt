@@ -60,6 +60,20 @@ impl<'a> TextCursor<'a> {
         }
     }
 
+    /// The cursor before the first of so many texts, which the bytes are known to join. Nothing is read.
+    pub fn spelled(bytes: &'a [u8], count: u64) -> Self
+        requires { (values : List (Option (List ℕ))) × JoinsTexts bytes.now values × (length values ≡ count) }
+        ensures spelled { JoinsTexts bytes.now result }
+        ensures count { length result ≡ count }
+    {
+        let runs = RunCursor::spelled(bytes, count);
+        TextCursor {
+            runs,
+            more: 0,
+            value: None,
+        }
+    }
+
     /// How many texts are left.
     pub fn left(&self) -> u64
         ensures { result ≡ length self.now }
