@@ -1,6 +1,6 @@
 //! A cursor over the values of a column of deltas. It takes no memory.
 ghost use Rattle.std.specs.Prelude.{◌≡◌, ◌<◌, ◌≤◌, ◌++◌, ◌∷◌, [], ℤ, List, Option, None, length, drop, IfOk, IfSome, IfNone, OnErr};
-ghost use Rattle.am_delta.specs.Deltas.{JoinsDeltas, AllBetween, stretch};
+ghost use Rattle.am_delta.specs.Deltas.{JoinsDeltas, AllBetween, AllFit, stretch};
 
 use crate::arithmetic::sum_of;
 use crate::between::stays_between;
@@ -47,6 +47,19 @@ impl<'a> DeltaCursor<'a> {
                     Err(BadDelta)
                 }
             }
+        }
+    }
+
+    /// The cursor before the first of so many values, which the bytes are known to join. Nothing is read.
+    pub fn spelled(bytes: &'a [u8], count: u64) -> Self
+        requires { (values : List (Option ℤ)) × JoinsDeltas bytes.now values × (length values ≡ count) × AllFit values }
+        ensures spelled { JoinsDeltas bytes.now result }
+        ensures count { length result ≡ count }
+    {
+        let differences = SignedCursor::spelled(bytes, count);
+        DeltaCursor {
+            differences,
+            value: 0,
         }
     }
 
