@@ -184,6 +184,26 @@ no_first bytes flags n none j = by_counts j.0 j.1 j.2
     by_counts [] c b = omega (arith, ap length b)
     by_counts (k ∷ ks) c b = none k (flat_map uleb ks) c.0 b
 
+-- what bytes are known to spell, from the first count on
+
+pub known_nothing : (bytes : List ℕ) (flags : List Bool) (count : ℕ) → JoinsFlags bytes flags → length flags ≡ count → ((n : ℕ) (rest : List ℕ) → n < 2 ^ 64 → bytes ≡ uleb n ++ rest → ⊥)
+    → (SpellCounts bytes × (count ≡ length (flags_at false 0 bytes))) × JoinsFlags bytes (flags_at false 0 bytes)
+known_nothing bytes flags count j n none = by_counts j.0 j.1 j.2 j.3
+  where
+    by_counts : (counts : List ℕ) → OnlyFirstEmpty counts → bytes ≡ flat_map uleb counts → flags ≡ alternating false counts → (SpellCounts bytes × (count ≡ length (flags_at false 0 bytes))) × JoinsFlags bytes (flags_at false 0 bytes)
+    by_counts [] c b f =
+        let w = over_nothing bytes 0 (ap length b) in
+        ((w.0.0, sym n ∙ ap length f ∙ w.0.1), w.1.0)
+    by_counts (k ∷ ks) c b f = absurd (none k (flat_map uleb ks) c.0 b)
+
+pub known_counts : (bytes rest : List ℕ) (first : ℕ) (flags : List Bool) (count : ℕ) → JoinsFlags bytes flags → length flags ≡ count → first < 2 ^ 64 → bytes ≡ uleb first ++ rest
+    → (SpellCounts rest × (count ≡ length (flags_at false first rest))) × JoinsFlags bytes (flags_at false first rest)
+known_counts bytes rest first flags count j n h e =
+    let f = first_counts bytes rest first flags (omega (arith, ap length e, length-append (uleb first) rest, length_uleb-pos first)) h e j in
+    let most = first + sum f.0 in
+    let w = over_counts bytes rest first (sum f.0) most h e (omega arith) (omega arith) (f.0, f.1, f.2, refl) in
+    ((w.0.0, sym n ∙ f.3 ∙ w.0.1), w.1.0)
+
 pub flags-next : (flag : Bool) (count : ℕ) (rest : List ℕ) → 0 < count → flags_at flag count rest ≡ flag ∷ flags_at flag (count - 1) rest
 flags-next flag zero rest h = absurd (omega arith)
 flags-next flag (suc count) rest h = ap (λ n. flag ∷ flags_at flag n rest) (let e : count ≡ suc count - 1 = omega arith in e)

@@ -64,6 +64,32 @@ impl<'a> FlagCursor<'a> {
         }
     }
 
+    /// The cursor before the first of so many flags, which the bytes are known to join. Only the first length is read.
+    pub fn spelled(bytes: &'a [u8], count: u64) -> Self
+        requires { (flags : List Bool) × JoinsFlags bytes.now flags × (length flags ≡ count) }
+        ensures spelled { JoinsFlags bytes.now result }
+        ensures count { length result ≡ count }
+    {
+        let Some((first, rest)) = number_at(bytes) else {
+            return FlagCursor {
+                at: Position {
+                    flag: false,
+                    count: 0,
+                    rest: bytes,
+                },
+                left: count,
+            };
+        };
+        FlagCursor {
+            at: Position {
+                flag: false,
+                count: first,
+                rest,
+            },
+            left: count,
+        }
+    }
+
     /// How many flags are left.
     pub fn left(&self) -> u64
         ensures { result ≡ length self.now }
