@@ -53,6 +53,16 @@ impl<'a> ValueCursor<'a> {
         }
     }
 
+    /// The cursor before the first of so many values, which the two columns are known to spell. Nothing is read.
+    pub fn spelled(meta: &'a [u8], raw: &'a [u8], count: u64) -> Self
+        requires { (values : List (Option RawValue)) × JoinsValues meta.now raw.now values × (length values ≡ count) }
+        ensures spelled { JoinsValues meta.now raw.now result }
+        ensures count { length result ≡ count }
+    {
+        let numbers = UnsignedCursor::spelled(meta, count);
+        ValueCursor { numbers, raw }
+    }
+
     /// How many values are left.
     pub fn left(&self) -> u64
         ensures { result ≡ length self.now }

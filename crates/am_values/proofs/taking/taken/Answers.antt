@@ -1,4 +1,4 @@
-use Rattle.std.proofs.Common.{arith, map, length, Some, subst, ◌≡◌, ◌++◌, ◌∙◌, ◌≤◌, ◌-◌, drop}
+use Rattle.std.proofs.Common.{arith, map, length, Some, subst, ◌≡◌, ◌++◌, ◌≤◌, ◌-◌}
 use Rattle.std.specs.Prelude.{replicate, IfSome}
 use Rattle.am_leb.specs.Leb.{uleb}
 use Rattle.std.proofs.lemmas.List.{length-replicate, length-map}

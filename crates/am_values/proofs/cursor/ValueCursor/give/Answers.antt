@@ -1,4 +1,4 @@
-use Rattle.std.proofs.Common.{◌-◌, ◌∙◌, arith, length, take, drop, ap}
+use Rattle.std.proofs.Common.{◌∙◌, arith, length, take, drop, ap}
 use Rattle.am_values.specs.Cutting.{widths}
 use Rattle.am_values.proofs.Cuts.{length-values}
 use Rattle.am_values.proofs.Given.{front_spelled, front_joined, front_good, rest_shown, rest_is_cut}
