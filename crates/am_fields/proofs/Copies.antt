@@ -95,6 +95,10 @@ sum_part whole from new x n left k sum kl l e s b f =
     let part = part_is (counts whole) (counts from) (counts new) (replicate k v) n left k (length-replicate k v) kl l all (moved_behind (λ y. unwrap_or y 0) (n - left) whole from b) (lengths_part k x from new f) in
     omega (arith, s, ap total part, total_both (take (n - left) (counts whole)) (replicate k v), total_alike k v)
 
+-- what a run counts, and what is behind it
+pub total_part : (from new : List (Option ℕ)) (x : Option ℕ) (k : ℕ) → from ≡ replicate k x ++ new → total (counts from) ≡ k * unwrap_or x 0 + total (counts new)
+total_part from new x k f = omega (arith, ap total (lengths_part k x from new f), total_both (replicate k (unwrap_or x 0)) (counts new), total_alike k (unwrap_or x 0))
+
 -- before the items are taken
 pub group_room : {A : Type 0} (n sum : ℕ) (xs : List (Option ℕ)) (items : List A) (shown : List (List A)) → total (counts xs) ≡ length items → parts (counts xs) items ≡ shown → sum ≡ total (take n (counts xs)) → (sum ≤ length items) × (length (flat (take n shown)) ≡ sum)
 group_room n sum xs items shown whole e s =
