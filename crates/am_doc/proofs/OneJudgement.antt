@@ -1,5 +1,5 @@
 -- Contents are judged in one way.
-use Rattle.std.proofs.Common.{◌≡◌, ℕ, ◌<◌, List, [], ◌∷◌, ◌⊎◌, Contains, Result, Ok, Err, refl, sym, ap, ◌∙◌, subst, inl, inr, arith}
+use Rattle.std.proofs.Common.{◌≡◌, ℕ, List, [], ◌∷◌, Result, Ok, Err, refl, sym, ap, ◌∙◌, subst, inl, inr}
 use Rattle.std.specs.Prelude.{IsBitSet}
 use Rattle.std.specs.List.{AllByRecursion}
 use Rattle.std.proofs.lemmas.List.Elements.{All-contains, All-from_recursion}
@@ -8,7 +8,7 @@ use Rattle.am_colmeta.specs.Judgement.{AreCompressed, AreKnown}
 use Rattle.am_doc.specs.declared.fault.DocFault.{DocFault}
 use Rattle.am_doc.specs.declared.fault.DocFault.TheVariants.{BadDocument, CompressedColumn}
 use Rattle.am_doc.specs.Fronts.{Front, IsCompressed}
-use Rattle.am_doc.specs.Spelling.{meta_specifications, row_specifications, AreColumns, SpellsTable, Judges}
+use Rattle.am_doc.specs.Spelling.{meta_specifications, row_specifications, SpellsTable, Judges}
 use Rattle.am_doc.proofs.OneTable.{front_splits, one_table}
 
 abbrev IsPlain : ℕ → Type 0
@@ -29,7 +29,7 @@ plain_rows : AllByRecursion IsPlain row_specifications
 plain_rows = (no 0 refl, (no 0 refl, (no 0 refl, (no 0 refl, (no 0 refl, (no 0 refl, (no 0 refl, (no 0 refl, (no 0 refl, (no 0 refl, (no 0 refl, (no 0 refl, (no 0 refl, (no 0 refl, (no 0 refl, (no 0 refl, tt))))))))))))))))
 
 -- a spelled table lists no column that is compressed
-spelled_is_plain : (bytes : List ℕ) (t : Table) → SpellsTable bytes t → IsCompressed bytes → ⊥
+pub spelled_is_plain : (bytes : List ℕ) (t : Table) → SpellsTable bytes t → IsCompressed bytes → ⊥
 spelled_is_plain bytes t s k =
     let same : k.parts ≡ s.front = (front_splits k.parts s.front k.rest s.rest k.is_front s.is_front (sym k.bytes_are ∙ s.bytes_are)).0 in
     elim k.compressed [

@@ -63,3 +63,8 @@ suffix_one heads metas (byte ∷ bytes) xs ys small p q =
     let first = suffix_again heads metas (byte ∷ bytes) xs small (omega arith) p in
     let second = suffix_again heads metas (byte ∷ bytes) ys small (omega arith) q in
     sym first.2 ∙ second.2
+
+-- bytes that are known to be such places are read as these
+pub places_known : (heads metas : ℕ) (bytes : List ℕ) (places : Option (List ℕ)) → metas ≤ 2 ^ 64 → IsSuffix heads metas bytes places → places_in heads bytes ≡ places
+places_known heads metas [] places small s = suffix_none heads metas places s
+places_known heads metas (byte ∷ bytes) places small s = (suffix_again heads metas (byte ∷ bytes) places small (omega arith) s).2

@@ -7,7 +7,7 @@ ghost use Rattle.am_colmeta.specs.Judgement.{AreCompressed};
 ghost use Rattle.am_fields.specs.Limits.{IsShortActor};
 ghost use Rattle.am_doc.specs.Fronts.{IsFront};
 ghost use Rattle.am_doc.specs.Sound.{IsSpelled};
-ghost use Rattle.am_doc.specs.Spelling.{SpellsBehind, Judges};
+ghost use Rattle.am_doc.specs.Spelling.{SpellsBehind, SpellsTable, Judges};
 ghost use Rattle.am_doc.specs.Reading.{front_of};
 
 use crate::cut::columns_at;
@@ -96,6 +96,29 @@ fn opened<'a>(front: &FrontRef<'a>, rest: &'a [u8]) -> Option<DocRef<'a>>
     })
 }
 
+// The document with this front, and this behind it, which is known to spell the rest of a table.
+fn known<'a>(front: &FrontRef<'a>, rest: &'a [u8]) -> DocRef<'a>
+    requires front { IsFront (front_of front.now) }
+    requires known { (t : ATable) × SpellsBehind (front_of front.now) rest.now t × (AreCompressed front.now.metas → ⊥) × (AreCompressed front.now.rows → ⊥) }
+    ensures { SpellsBehind (front_of front.now) rest.now result }
+{
+    let Some((metas, rest)) = columns_at(&front.metas, rest, &META_COLUMNS) else {
+        unreachable!();
+    };
+    let Some((rows, suffix)) = columns_at(&front.rows, rest, &ROW_COLUMNS) else {
+        unreachable!();
+    };
+    let metas = MetaCursor::spelled(metas, front.actors.again());
+    let rows = RowCursor::spelled(rows, front.actors.again());
+    DocRef {
+        actors: front.actors.again(),
+        heads: front.heads.again(),
+        metas,
+        rows,
+        suffix,
+    }
+}
+
 impl<'a> DocRef<'a> {
     /// The document with these contents of a chunk (Automerge Binary Document Format, "Document Chunks"), in any spelling of
     /// its columns. CompressedColumn where the parts in front of the columns can be read and list a column that is compressed
@@ -116,6 +139,17 @@ impl<'a> DocRef<'a> {
             Some(doc) => Ok(doc),
             None => Err(DocFault::BadDocument),
         }
+    }
+
+    /// The document that these contents are known to spell. No row is judged.
+    pub fn spelled(contents: &'a [u8]) -> DocRef<'a>
+        requires { (t : ATable) × SpellsTable contents.now t }
+        ensures { SpellsTable contents.now result }
+    {
+        let Some((front, rest)) = FrontRef::read(contents) else {
+            unreachable!();
+        };
+        known(&front, rest)
     }
 
     /// Some contents spell its table. Nothing is done.

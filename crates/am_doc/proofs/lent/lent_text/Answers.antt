@@ -1,5 +1,4 @@
-use Rattle.std.proofs.Common.{◌≡◌, ◌<◌, ◌≤◌, ◌∙◌, List, ℕ, length, sym, subst, take, refl, arith}
-use Rattle.am_types.specs.declared.Row.{Row}
+use Rattle.std.proofs.Common.{◌<◌, ◌≤◌, ◌∙◌, List, ℕ, length, sym, subst, take, refl, arith}
 use Rattle.am_colmeta.specs.Metadata.{metadata, listing, body}
 use Rattle.am_doccols.specs.Columns.{written_rows}
 use Rattle.am_doccols.specs.Conditions.{HasRoom, IsRowFor}
