@@ -5,7 +5,7 @@ ghost use Rattle.am_types.specs.Members.{Member};
 ghost use Rattle.am_doc.specs.Contents.{body};
 ghost use Rattle.am_store.specs.Contents.{AreContents, ForContents, IsLarger, MayBecome};
 
-use am_doc::{DocRef, canonical_contents_spell, one_judgement};
+use am_doc::{DocRef, canonical_contents_spell, one_table};
 use am_graph::Graph;
 use am_merge::merge;
 use am_types::{Bytes, Change};
@@ -26,11 +26,8 @@ pub fn doc_of<'a>(contents: &'a [u8]) -> DocRef<'a>
     ensures { ForContents contents.now (λ C. result ≡ table C) }
 {
     canonical_contents_spell();
-    one_judgement();
-    match DocRef::read(contents) {
-        Ok(doc) => doc,
-        Err(_) => unreachable!(),
-    }
+    one_table();
+    DocRef::spelled(contents)
 }
 
 /// Makes of the contents those of the larger set that the lent changes have joined. The graph is that of the larger set, in

@@ -1,15 +1,16 @@
 use Rattle.std.proofs.Common.{rules, ◌<◌, ◌^◌, length}
-use Rattle.am_store.proofs.Reading.{read_table, no_doc_fault}
+use Rattle.am_types.specs.Documents.{table}
+use Rattle.am_store.proofs.Reading.{contents_spell}
 use Rattle.am_store.proofs.contents.doc_of.Goals as goal
 
-pub unreachable-requires : goal.unreachable-requires
-unreachable-requires c =
+pub spelled-requires : goal.spelled-requires
+spelled-requires c =
     let bytes = c.args.contents.now in
     let short : length bytes < 2 ^ 64 = search rules in
-    no_doc_fault c.canonical_contents_spell.ensures.sets c.one_judgement.ensures bytes short c.requires.0 c.requires.1 c.in-Err.field-0 c.in-Err.ensures.judged
+    (table c.requires.0, contents_spell c.canonical_contents_spell.ensures.sets bytes short c.requires.0 c.requires.1)
 
 pub returns : goal.returns
 returns c = λ C is.
     let bytes = c.args.contents.now in
     let short : length bytes < 2 ^ 64 = search rules in
-    read_table c.canonical_contents_spell.ensures.sets c.one_judgement.ensures bytes short C is c.in-Ok.doc c.in-Ok.ensures.judged
+    c.one_table.ensures bytes c.spelled.result (table C) c.spelled.ensures (contents_spell c.canonical_contents_spell.ensures.sets bytes short C is)
