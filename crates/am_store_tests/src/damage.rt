@@ -1,10 +1,11 @@
 //! Damaged documents: each bit turned, each front part, and runs that claim more rows than there may be. What is wrong
 //! with each was told by another program.
+use crate::calls::empty;
 use crate::saving::{BOTH, ONE};
-use crate::turning::{mended, turned};
+use crate::turning::{contents_of, mended, turned};
 use am_doc::{DocFault, DocRef};
-use am_frame::next_frame;
-use am_store::{LoadError, LoadFault, ReadFault, Report, Store};
+use am_store::{LoadError, LoadFault, ReadFault, Report};
+use am_types::Bytes;
 use std::alloc::Global;
 use std::process::Abort;
 
@@ -14,8 +15,9 @@ const BITS: [u8; 8] = [1, 2, 4, 8, 16, 32, 64, 128];
 /// A document, and what is wrong with it where one bit is turned: a letter for each bit.
 struct Damaged {
     document: &'static [u8],
-    /// At the type and the two bytes behind it, with the old checksum.
-    head: &'static str,
+    /// With the old checksum: at the magic, at the checksum, and at the type and the two bytes behind it. All other letters
+    /// are `s`.
+    old: &'static str,
     /// In the contents, with the checksum of the damaged ones.
     mended: &'static str,
 }
@@ -23,12 +25,18 @@ struct Damaged {
 const DAMAGED: &[Damaged] = &[
     Damaged {
         document: ONE,
-        head: "ssssssssssssststssssssss",
+        old: "\
+            mmmmmmmmmmmmmmmmmmmmmmmmmmmmmmmm\
+            ssssssssssssssssssssssssssssssss\
+            ssssssssssssststssssssss",
         mended: ONE_MENDED,
     },
     Damaged {
         document: BOTH,
-        head: "sssssssstttstttslttttttt",
+        old: "\
+            mmmmmmmmmmmmmmmmmmmmmmmmmmmmmmmm\
+            ssssssssssssssssssssssssssssssss\
+            sssssssstttstttslttttttt",
         mended: BOTH_MENDED,
     },
 ];
@@ -85,58 +93,52 @@ fn fault_letter(fault: LoadFault) -> u8 {
     }
 }
 
-/// What an empty store finds the file to be.
-fn letter(rt: &impl Abort, alloc: Global, file: &[u8]) -> u8 {
-    let mut store = Store::new(alloc).expect(rt, "there is memory");
-    letter_of(store.read_file(alloc, file, false))
+/// An empty store finds the file to be this. Place and bit tell of a failure where it was.
+fn finds(rt: &impl Abort, alloc: Global, file: &[u8], want: u8, place: usize, bit: u8) {
+    let mut store = empty(rt, alloc);
+    let letter = letter_of(store.read_file(alloc, file, false));
+    assert_eq!(rt; letter, want, "at byte {place}, bit {bit}");
 }
 
 #[test]
 fn a_turned_bit_is_found(rt: HostRuntime) {
     for damaged in DAMAGED {
-        finds_each_bit(&rt, rt.alloc(), damaged);
-    }
-}
-
-fn finds_each_bit(rt: &impl Abort, alloc: Global, damaged: &Damaged) {
-    let mut head = damaged.head.bytes();
-    for (place, _) in damaged.document.iter().enumerate() {
-        for bit in BITS {
-            let want = match place {
-                0..=3 => b'm',
-                4..=7 => b's',
-                _ => head.next().unwrap_or(b's'),
-            };
-            let file = turned(rt, alloc, damaged.document, place, bit);
-            assert_eq!(rt;
-                letter(rt, alloc, &file),
-                want,
-                "at byte {place}, bit {bit}"
-            );
-        }
+        finds_each_bit(&rt, rt.alloc(), damaged.document, false, damaged.old);
     }
 }
 
 #[test]
 fn a_turned_bit_is_found_where_the_checksum_is_right(rt: HostRuntime) {
     for damaged in DAMAGED {
-        finds_each_mended_bit(&rt, rt.alloc(), damaged);
+        let contents = contents_of(&rt, damaged.document);
+        finds_each_bit(&rt, rt.alloc(), contents, true, damaged.mended);
     }
 }
 
-fn finds_each_mended_bit(rt: &impl Abort, alloc: Global, damaged: &Damaged) {
-    let frame = next_frame(damaged.document).expect(rt, "it is a chunk");
-    let mut told = damaged.mended.bytes();
-    for (place, _) in frame.contents.iter().enumerate() {
+/// Of a document, or of the contents of one that is mended.
+fn finds_each_bit(rt: &impl Abort, alloc: Global, bytes: &[u8], is_mended: bool, letters: &str) {
+    let mut letters = letters.bytes();
+    for (place, _) in bytes.iter().enumerate() {
         for bit in BITS {
-            let file = mended(rt, alloc, damaged.document, place, bit);
-            let want = told.next().unwrap_or(b'?');
-            assert_eq!(rt;
-                letter(rt, alloc, file.as_slice()),
-                want,
-                "at byte {place}, bit {bit}"
-            );
+            let file = with_turned(rt, alloc, bytes, is_mended, place, bit);
+            let want = letters.next().unwrap_or(b's');
+            finds(rt, alloc, file.as_slice(), want, place, bit);
         }
+    }
+}
+
+fn with_turned(
+    rt: &impl Abort,
+    alloc: Global,
+    bytes: &[u8],
+    is_mended: bool,
+    place: usize,
+    bit: u8,
+) -> Bytes {
+    if is_mended {
+        mended(rt, alloc, bytes, place, bit)
+    } else {
+        Bytes::from(turned(rt, alloc, bytes, place, bit))
     }
 }
 
@@ -147,13 +149,13 @@ fn each_front_part_is_truncated(rt: HostRuntime) {
     }
 }
 
+/// No bytes at all are a file of no chunks.
 fn finds_each_front_part(rt: &impl Abort, alloc: Global, document: &[u8]) {
-    for (len, _) in document.iter().enumerate() {
-        let front = document.get(..len).expect(rt, "it is shorter");
-        let want = if len == 0 { b'a' } else { b't' };
-        assert_eq!(rt; letter(rt, alloc, front), want, "at {len} bytes");
+    finds(rt, alloc, &[], b'a', 0, 0);
+    for len in 1..document.len() {
+        finds(rt, alloc, &document[..len], b't', len, 0);
     }
-    assert_eq!(rt; letter(rt, alloc, document), b'a');
+    finds(rt, alloc, document, b'a', document.len(), 0);
 }
 
 /// The front of the contents of a document of one change, whose columns are runs.
@@ -189,12 +191,12 @@ fn runs_have_as_many_rows_as_there_may_be(rt: HostRuntime) {
 fn of_rows(rt: &impl Abort, alloc: Global, count: &[u8]) -> Vec<u8> {
     let mut contents = RUNS.to_vec(alloc).expect(rt, "there is memory");
     for piece in BETWEEN {
-        contents
-            .extend_from_slice(count)
-            .expect(rt, "there is memory");
-        contents
-            .extend_from_slice(piece)
-            .expect(rt, "there is memory");
+        push(rt, &mut contents, count);
+        push(rt, &mut contents, piece);
     }
     contents
+}
+
+fn push(rt: &impl Abort, out: &mut Vec<u8>, bytes: &[u8]) {
+    out.extend_from_slice(bytes).expect(rt, "there is memory");
 }

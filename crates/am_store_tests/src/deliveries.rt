@@ -2,9 +2,10 @@
 ghost use Rattle.std.specs.Prelude.{All};
 ghost use Rattle.am_types.specs.Fine.{Fine};
 
+use crate::calls::{copy, empty, heads, waiting};
 use am_change::parse_change;
 use am_store::{Counts, LoadError, LoadFault, ReadFault, Rejected, Store, Why};
-use am_types::{Change, Hash, List, Twin};
+use am_types::{Change, Hash, List};
 use std::alloc::Global;
 use std::process::Abort;
 
@@ -108,16 +109,17 @@ const COUNTS: Counts = Counts {
 
 #[test]
 fn files_are_delivered(rt: HostRuntime) {
-    let mut store = Store::new(rt.alloc()).expect(&rt, "there is memory");
+    let mut store = empty(&rt, rt.alloc());
     for (file, only_changes, told) in FILES {
-        let read = read(&rt, rt.alloc(), &mut store, *file, *only_changes);
+        let read = told_of(&rt, rt.alloc(), &mut store, *file, *only_changes);
         assert_eq!(rt; read, *told);
     }
-    counts(&rt, rt.alloc(), &store);
-    lengths(&rt, rt.alloc(), &store);
+    assert!(rt; store.counts() == COUNTS);
+    assert!(rt; copy(&rt, rt.alloc(), &store).counts() == COUNTS);
+    leaves_two(&rt, rt.alloc(), &store);
 }
 
-fn read(
+fn told_of(
     rt: &impl Abort,
     alloc: Global,
     store: &mut Store,
@@ -125,37 +127,36 @@ fn read(
     only_changes: bool,
 ) -> Result<Told, ReadFault> {
     let report = store.read_file(alloc, file, only_changes)?;
-    let waiting = store.waiting(alloc).expect(rt, "there is memory");
-    let rejected = report.rejected.as_slice().first().copied();
-    Ok((report.added, waiting.as_slice().first().copied(), rejected))
+    let waits = first_of(&waiting(rt, alloc, store));
+    Ok((report.added, waits, first_of(&report.rejected)))
 }
 
-/// The counts of the store and of a copy.
-fn counts(rt: &impl Abort, alloc: Global, store: &Store) {
-    let twin = store.copy(alloc).expect(rt, "there is memory");
-    assert_eq!(rt; [store.counts(), twin.counts()], [COUNTS; 2]);
+fn first_of<T: Copy>(items: &List<T>) -> Option<T> {
+    match items.as_slice() {
+        [first, ..] => Some(*first),
+        [] => None,
+    }
 }
 
 /// How many changes are closed, how many ancestors the first one has with itself, and the head.
-fn lengths(rt: &impl Abort, alloc: Global, store: &Store) {
+fn leaves_two(rt: &impl Abort, alloc: Global, store: &Store) {
     let closed = store.closed(alloc).expect(rt, "there is memory");
-    assert_eq!(rt; closed.len(), 2);
+    assert!(rt; closed.len() == 2);
     let ancestors = store
         .ancestors(alloc, FIRST_HEAD)
         .expect(rt, "the head is held");
-    assert_eq!(rt; ancestors.len(), 1);
-    let heads = store.graph().heads(alloc).expect(rt, "there is memory");
-    assert_eq!(rt; heads.as_slice().first().copied(), Some(SECOND_HASH));
+    assert!(rt; ancestors.len() == 1);
+    assert!(rt; first_of(&heads(rt, alloc, store)) == Some(SECOND_HASH));
 }
 
 #[test]
 fn changes_are_delivered(rt: HostRuntime) {
-    let mut store = Store::new(rt.alloc()).expect(&rt, "there is memory");
+    let mut store = empty(&rt, rt.alloc());
     let changes = changes(&rt, rt.alloc());
     let report = store
         .deliver(rt.alloc(), changes)
         .expect(&rt, "there is memory");
-    assert_eq!(rt; report.added, 1);
+    assert!(rt; report.added == 1);
 }
 
 /// The first change alone.

@@ -1,5 +1,6 @@
 //! Documents that the reference encoder made. Each is loaded, and the chunks of its changes are delivered to another store,
 //! the last one first. Both stores save it as it was.
+use crate::calls::{change, empty, history, read, same_bytes, save};
 use am_store::Store;
 use std::alloc::Global;
 use std::process::Abort;
@@ -93,31 +94,21 @@ fn a_document_of_every_kind_is_saved_as_it_was(rt: HostRuntime) {
 }
 
 fn goes_round(rt: &impl Abort, alloc: Global, document: &[u8]) {
-    let mut store = Store::new(alloc).expect(rt, "there is memory");
-    let mut other = Store::new(alloc).expect(rt, "there is memory");
-    let _report = store
-        .read_file(alloc, document, false)
-        .expect(rt, "the file is read");
+    let mut store = empty(rt, alloc);
+    let mut other = empty(rt, alloc);
+    let _report = read(rt, alloc, &mut store, document, false);
     deliver_last_first(rt, alloc, &store, &mut other);
-    is_saved_as(rt, alloc, &store, document);
-    is_saved_as(rt, alloc, &other, document);
-}
-
-fn is_saved_as(rt: &impl Abort, alloc: Global, store: &Store, document: &[u8]) {
-    let saved = store.save(alloc).expect(rt, "there is memory");
-    assert_eq!(rt; saved.as_slice(), document);
+    same_bytes(rt, save(rt, alloc, &store).as_slice(), document);
+    same_bytes(rt, save(rt, alloc, &other).as_slice(), document);
 }
 
 /// Delivers the chunks of the changes of a store to another one, the last one first.
 fn deliver_last_first(rt: &impl Abort, alloc: Global, store: &Store, other: &mut Store) {
-    let lines = store.history(alloc).expect(rt, "there is memory");
-    for line in lines.as_slice().iter().rev() {
-        let found = store
-            .change(alloc, &line.hash)
-            .expect(rt, "there is memory");
-        let chunk = found.expect(rt, "the change is held");
-        let _report = other
-            .read_file(alloc, chunk.as_slice(), true)
-            .expect(rt, "the chunk is read");
+    let lines = history(rt, alloc, store);
+    let lines = lines.as_slice();
+    for i in 0..lines.len() {
+        let line = &lines[lines.len() - 1 - i];
+        let chunk = change(rt, alloc, store, &line.hash);
+        let _report = read(rt, alloc, other, chunk.as_slice(), true);
     }
 }

@@ -1,7 +1,7 @@
 //! The history of a store, of changes that the reference encoder made.
-use am_store::{HistoryLine, Store};
+use crate::calls::{empty, history, read_all, same_bytes};
+use am_store::HistoryLine;
 use am_types::Hash;
-use std::alloc::Global;
 use std::process::Abort;
 
 /// A change of three operations.
@@ -97,30 +97,20 @@ const TOLD: &[Told] = &[
 
 #[test]
 fn changes_are_told_in_canonical_order(rt: HostRuntime) {
-    let mut store = Store::new(rt.alloc()).expect(&rt, "there is memory");
-    for chunk in [LATE, NOTED, THREE, NONE] {
-        let _report = store
-            .read_file(rt.alloc(), chunk, true)
-            .expect(&rt, "the chunk is read");
-    }
-    tells(&rt, rt.alloc(), &store);
-}
-
-fn tells(rt: &impl Abort, alloc: Global, store: &Store) {
-    let lines = store.history(alloc).expect(rt, "there is memory");
-    assert_eq!(rt; lines.len(), TOLD.len());
+    let mut store = empty(&rt, rt.alloc());
+    read_all(&rt, rt.alloc(), &mut store, &[LATE, NOTED, THREE, NONE]);
+    let lines = history(&rt, rt.alloc(), &store);
+    assert!(rt; lines.len() == TOLD.len());
     for (line, told) in lines.as_slice().iter().zip(TOLD) {
-        is_told(rt, line, told);
+        is_told(&rt, line, told);
     }
 }
 
 fn is_told(rt: &impl Abort, line: &HistoryLine, told: &Told) {
     let (hash, actor, seq, start, count, time, message) = *told;
-    assert_eq!(rt; line.hash, hash);
-    assert_eq!(rt; line.actor.as_slice(), actor);
-    assert_eq!(rt;
-        (line.seq, line.start, line.count, line.time),
-        (seq, start, count, time)
-    );
-    assert_eq!(rt; line.message.as_str(), message);
+    assert!(rt; line.hash == hash);
+    same_bytes(rt, line.actor.as_slice(), actor);
+    assert!(rt; line.seq == seq && line.start == start && line.count == count);
+    assert!(rt; line.time == time);
+    same_bytes(rt, line.message.as_str().as_bytes(), message.as_bytes());
 }

@@ -6,6 +6,8 @@ mod adopting;
 #[cfg(test)]
 mod alike;
 #[cfg(test)]
+mod calls;
+#[cfg(test)]
 mod copies;
 #[cfg(test)]
 mod damage;

@@ -1,9 +1,10 @@
 //! Documents that the reference encoder made, loaded into a store, and what is wrong where a bit of one is turned.
+use crate::calls::{change, empty, read, same_bytes};
 use crate::deliveries::{FIRST, FIRST_HASH};
 use crate::saving::{BESIDE, BOTH, DELETED, DELETION, ONE};
-use crate::turning::{fault_of, mended};
+use crate::turning::{contents_of, mended};
 use am_frame::next_frame;
-use am_store::{LoadFault, Store};
+use am_store::{LoadFault, ReadFault, Store};
 use am_types::Hash;
 use std::alloc::Global;
 use std::process::Abort;
@@ -14,10 +15,8 @@ const LOADED: &[(&[u8], [&[u8]; 2])] = &[(DELETED, [FIRST, DELETION]), (BOTH, [F
 #[test]
 fn documents_give_the_chunks_of_their_changes(rt: HostRuntime) {
     for (document, chunks) in LOADED {
-        let mut store = Store::new(rt.alloc()).expect(&rt, "there is memory");
-        let _report = store
-            .read_file(rt.alloc(), *document, false)
-            .expect(&rt, "the file is read");
+        let mut store = empty(&rt, rt.alloc());
+        let _report = read(&rt, rt.alloc(), &mut store, *document, false);
         for chunk in chunks {
             gives(&rt, rt.alloc(), &store, *chunk);
         }
@@ -26,8 +25,7 @@ fn documents_give_the_chunks_of_their_changes(rt: HostRuntime) {
 
 fn gives(rt: &impl Abort, alloc: Global, store: &Store, chunk: &[u8]) {
     let hash = next_frame(chunk).expect(rt, "it is a chunk").hash;
-    let found = store.change(alloc, &hash).expect(rt, "there is memory");
-    assert_eq!(rt; found.expect(rt, "the change is held").as_slice(), chunk);
+    same_bytes(rt, change(rt, alloc, store, &hash).as_slice(), chunk);
 }
 
 /// The hash of the first change at a time of -1.
@@ -47,16 +45,39 @@ const TURNED: &[(usize, LoadFault)] = &[
 
 #[test]
 fn bad_documents_are_refused(rt: HostRuntime) {
-    let mut store = Store::new(rt.alloc()).expect(&rt, "there is memory");
+    let mut store = empty(&rt, rt.alloc());
     for (place, fault) in TURNED {
-        refuses(&rt, rt.alloc(), &mut store, *place, *fault);
+        let document = mended(&rt, rt.alloc(), contents_of(&rt, ONE), *place, 1);
+        refuses(
+            &rt,
+            rt.alloc(),
+            &mut store,
+            document.as_slice(),
+            false,
+            *fault,
+        );
+        refuses(
+            &rt,
+            rt.alloc(),
+            &mut store,
+            document.as_slice(),
+            true,
+            LoadFault::DocumentHere,
+        );
     }
 }
 
-fn refuses(rt: &impl Abort, alloc: Global, store: &mut Store, place: usize, fault: LoadFault) {
-    let document = mended(rt, alloc, ONE, place, 1);
-    let found = fault_of(alloc, store, document.as_slice(), false);
-    assert_eq!(rt; found, Some(fault));
-    let found = fault_of(alloc, store, document.as_slice(), true);
-    assert_eq!(rt; found, Some(LoadFault::DocumentHere));
+/// This is wrong with the file.
+pub(crate) fn refuses(
+    rt: &impl Abort,
+    alloc: Global,
+    store: &mut Store,
+    file: &[u8],
+    only_changes: bool,
+    fault: LoadFault,
+) {
+    match store.read_file(alloc, file, only_changes) {
+        Err(ReadFault::Load(error)) => assert_eq!(rt; error.fault, fault),
+        _ => assert!(rt; false),
+    }
 }

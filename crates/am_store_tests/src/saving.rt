@@ -1,8 +1,6 @@
 //! Documents that the reference encoder made, saved from a store to which their changes were delivered in some order.
+use crate::calls::{empty, read_all, same_bytes, save, save_all};
 use crate::deliveries::{FIRST, SECOND};
-use am_store::Store;
-use std::alloc::Global;
-use std::process::Abort;
 
 /// A change of the same actor that depends on the first, and deletes the key.
 pub(crate) const DELETION: &[u8] = &[
@@ -85,19 +83,9 @@ const SAVED: &[(&[&[u8]], &[u8], &[u8])] = &[
 #[test]
 fn documents_are_saved(rt: HostRuntime) {
     for (chunks, document, all) in SAVED {
-        let mut store = Store::new(rt.alloc()).expect(&rt, "there is memory");
-        for chunk in *chunks {
-            let _report = store
-                .read_file(rt.alloc(), *chunk, true)
-                .expect(&rt, "the chunk is read");
-        }
-        saves(&rt, rt.alloc(), &store, *document, *all);
+        let mut store = empty(&rt, rt.alloc());
+        read_all(&rt, rt.alloc(), &mut store, *chunks);
+        same_bytes(&rt, save(&rt, rt.alloc(), &store).as_slice(), *document);
+        same_bytes(&rt, save_all(&rt, rt.alloc(), &store).as_slice(), *all);
     }
-}
-
-fn saves(rt: &impl Abort, alloc: Global, store: &Store, document: &[u8], all: &[u8]) {
-    let saved = store.save(alloc).expect(rt, "there is memory");
-    assert_eq!(rt; saved.as_slice(), document);
-    let saved = store.save_all(alloc).expect(rt, "there is memory");
-    assert_eq!(rt; saved.as_slice(), all);
 }
