@@ -33,9 +33,9 @@ fn spells_unsigned_numbers(rt: HostRuntime) -> Result<(), Fail> {
     for &(number, spelling) in table {
         let mut out = Vec::new(rt.alloc());
         push_u(&mut out, number)?;
-        assert_eq!(rt; out.as_slice(), spelling, "at {number}");
+        assert!(rt; out.as_slice() == spelling, "at {number}");
         out.push(0x55)?;
-        assert_eq!(rt; read_u(&out), Ok((number, spelling.len())), "at {number}");
+        assert!(rt; read_u(&out) == Ok((number, spelling.len())), "at {number}");
     }
     Ok(())
 }
@@ -89,9 +89,9 @@ fn spells_signed_numbers(rt: HostRuntime) -> Result<(), Fail> {
     for &(number, spelling) in table {
         let mut out = Vec::new(rt.alloc());
         push_i(&mut out, number)?;
-        assert_eq!(rt; out.as_slice(), spelling, "at {number}");
+        assert!(rt; out.as_slice() == spelling, "at {number}");
         out.push(0x55)?;
-        assert_eq!(rt; read_i(&out), Ok((number, spelling.len())), "at {number}");
+        assert!(rt; read_i(&out) == Ok((number, spelling.len())), "at {number}");
     }
     Ok(())
 }
@@ -106,7 +106,7 @@ fn refuses_one_byte_too_many(rt: HostRuntime) {
         &[0xff, 0xff, 0x00],
     ];
     for &bytes in unsigned {
-        assert_eq!(rt; read_u(bytes), Err(LebFault::Long));
+        assert!(rt; read_u(bytes) == Err(LebFault::Long), "of {bytes:?}");
     }
     // 0, 63, -1, -64, 8191 and -8192
     let signed: &[&[u8]] = &[
@@ -118,7 +118,7 @@ fn refuses_one_byte_too_many(rt: HostRuntime) {
         &[0x80, 0xc0, 0x7f],
     ];
     for &bytes in signed {
-        assert_eq!(rt; read_i(bytes), Err(LebFault::Long));
+        assert!(rt; read_i(bytes) == Err(LebFault::Long), "of {bytes:?}");
     }
 }
 
@@ -141,7 +141,7 @@ fn refuses_what_is_no_shortest_number(rt: HostRuntime) {
         ),
     ];
     for &(bytes, unsigned, signed) in table {
-        assert_eq!(rt; read_u(bytes), Err(unsigned));
-        assert_eq!(rt; read_i(bytes), Err(signed));
+        assert!(rt; read_u(bytes) == Err(unsigned), "of {bytes:?}");
+        assert!(rt; read_i(bytes) == Err(signed), "of {bytes:?}");
     }
 }

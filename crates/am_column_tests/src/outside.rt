@@ -4,6 +4,7 @@ use am_outside::{
     Sink, Source, SureFolder, SureSink, SureSource, WriteFault, WriteSink,
 };
 use std::collections::VecDeque;
+use std::process::Abort;
 use std::test::Fail;
 use std::time::SystemTime;
 use std::{env, fs};
@@ -45,14 +46,19 @@ fn memory_folder_keeps_files(rt: HostRuntime) -> Result<(), Fail> {
     Ok(())
 }
 
+// The next reads, of four bytes at most, give these pieces.
+fn gives<S: Source>(rt: &impl Abort, source: &mut S, pieces: &[&[u8]]) {
+    let mut buffer = [0u8; 4];
+    for &piece in pieces {
+        assert!(rt; source.read(&mut buffer) == Ok(piece.len()), "of {piece:?}");
+        assert!(rt; buffer.starts_with(piece), "of {piece:?}");
+    }
+}
+
 #[test]
 fn sure_source_does_not_fail(rt: HostRuntime) -> Result<(), Fail> {
     let mut source = SureSource::new(b"hello".to_vec(rt.alloc())?);
-    let mut buffer = [0u8; 4];
-    assert!(rt; source.read(&mut buffer) == Ok(4));
-    assert!(rt; buffer == *b"hell");
-    assert!(rt; source.read(&mut buffer) == Ok(1));
-    assert!(rt; source.read(&mut buffer) == Ok(0));
+    gives(&rt, &mut source, &[b"hell", b"o", b""]);
     Ok(())
 }
 
@@ -79,12 +85,11 @@ fn sure_folder_does_not_fail(rt: HostRuntime) -> Result<(), Fail> {
 #[test]
 fn read_source_passes_bytes_on(rt: HostRuntime) {
     let mut reader = b"hello".as_slice();
-    let mut source = ReadSource::new(&mut reader);
-    let mut buffer = [0u8; 4];
-    assert!(rt; source.read(&mut buffer) == Ok(4));
-    assert!(rt; buffer == *b"hell");
-    assert!(rt; source.read(&mut buffer) == Ok(1));
-    assert!(rt; source.read(&mut buffer) == Ok(0));
+    gives(
+        &rt,
+        &mut ReadSource::new(&mut reader),
+        &[b"hell", b"o", b""],
+    );
 }
 
 #[test]

@@ -24,12 +24,18 @@ fn id(alloc: Global, counter: u64, actor: &[u8]) -> Result<OpId, ActorFault> {
     Ok(OpId { counter, actor })
 }
 
+// A list of one item.
+fn one<T: Drop>(alloc: Global, item: T) -> Result<List<T>, AllocError> {
+    let mut list = List::new(alloc);
+    list.push(item)?;
+    Ok(list)
+}
+
 fn operation(alloc: Global) -> Result<Op, ActorFault> {
     let obj = ObjId::Made(id(alloc, 1, &[0xaa])?);
     let key = Key::Elem(id(alloc, 2, &[0xaa])?);
     let raw = bytes(alloc, b"x")?;
-    let mut preds = List::new(alloc);
-    preds.push(id(alloc, 3, &[0xbb])?)?;
+    let preds = one(alloc, id(alloc, 3, &[0xbb])?)?;
     let mark = Some(text(alloc, "bold")?);
     Ok(Op {
         obj,
@@ -44,12 +50,10 @@ fn operation(alloc: Global) -> Result<Op, ActorFault> {
 }
 
 fn change(alloc: Global) -> Result<Change, ActorFault> {
-    let mut deps = List::new(alloc);
-    deps.push(Hash([7; 32]))?;
+    let deps = one(alloc, Hash([7; 32]))?;
     let actor = ActorId::of(alloc, &[0xaa])?;
     let message = text(alloc, "first")?;
-    let mut ops = List::new(alloc);
-    ops.push(operation(alloc)?)?;
+    let ops = one(alloc, operation(alloc)?)?;
     let extra = bytes(alloc, &[1, 2])?;
     Ok(Change {
         deps,
@@ -63,26 +67,26 @@ fn change(alloc: Global) -> Result<Change, ActorFault> {
     })
 }
 
-fn table(alloc: Global) -> Result<Table, ActorFault> {
+fn row(alloc: Global) -> Result<Row, ActorFault> {
     let op = operation(alloc)?;
-    let row_id = id(alloc, 3, &[0xaa])?;
-    let mut rows = List::new(alloc);
-    rows.push(Row {
+    let id = id(alloc, 3, &[0xaa])?;
+    Ok(Row {
         obj: op.obj,
         key: op.key,
-        id: row_id,
+        id,
         insert: op.insert,
         action: op.action,
         value: op.value,
         succs: op.preds,
         expand: op.expand,
         mark: op.mark,
-    })?;
+    })
+}
+
+fn meta(alloc: Global) -> Result<Meta, ActorFault> {
     let change = change(alloc)?;
-    let mut deps = List::new(alloc);
-    deps.push(0)?;
-    let mut metas = List::new(alloc);
-    metas.push(Meta {
+    let deps = one(alloc, 0)?;
+    Ok(Meta {
         actor: change.actor,
         seq: change.seq,
         max: 4,
@@ -90,17 +94,21 @@ fn table(alloc: Global) -> Result<Table, ActorFault> {
         message: change.message,
         deps,
         extra: change.extra,
-    })?;
-    let mut actors = List::new(alloc);
-    actors.push(ActorId::of(alloc, &[0xaa])?)?;
-    let mut suffix = List::new(alloc);
-    suffix.push(0)?;
+    })
+}
+
+fn table(alloc: Global) -> Result<Table, ActorFault> {
+    let actors = one(alloc, ActorId::of(alloc, &[0xaa])?)?;
+    let heads = one(alloc, Hash([7; 32]))?;
+    let metas = one(alloc, meta(alloc)?)?;
+    let rows = one(alloc, row(alloc)?)?;
+    let suffix = Some(one(alloc, 0)?);
     Ok(Table {
         actors,
-        heads: change.deps,
+        heads,
         metas,
         rows,
-        suffix: Some(suffix),
+        suffix,
     })
 }
 
@@ -109,16 +117,17 @@ fn document(alloc: Global) -> Result<Document, ActorFault> {
     let slot = Key::Elem(id(alloc, 2, &[0xaa])?);
     let id = id(alloc, 3, &[0xaa])?;
     let raw = bytes(alloc, &[10])?;
-    let mut entries = List::new(alloc);
-    entries.push(Entry {
+    let entry = Entry {
         obj,
         slot,
         id,
         action: 1,
         value: RawValue { kind: 8, raw },
         total: 10,
-    })?;
-    Ok(Document { entries })
+    };
+    Ok(Document {
+        entries: one(alloc, entry)?,
+    })
 }
 
 #[test]
