@@ -221,7 +221,7 @@ fn reads_changes_and_writes_them_back(rt: HostRuntime) -> Result<(), Fail> {
     let other_actor = with(other_value, 2, 0xbb);
     let other_insertion = with(with(T2, 34, 0xcc), 75, 0x79);
     let other_amount = with(with(K2, 34, 0xcc), 67, 0x7d);
-    let changes: [&[u8]; 17] = [
+    let changes: &[&[u8]] = &[
         &A1,
         &other_value,
         &other_actor,
@@ -240,7 +240,7 @@ fn reads_changes_and_writes_them_back(rt: HostRuntime) -> Result<(), Fail> {
         &K5,
         &K6,
     ];
-    for bytes in changes {
+    for &bytes in changes {
         assert!(rt; is_read_back(rt.alloc(), bytes)?, "{bytes:?}");
     }
     Ok(())
@@ -252,7 +252,7 @@ fn refuses_what_is_no_change(rt: HostRuntime) {
     let repeat_of_one = with(A1, 21, 0x01);
     let compressed = Some(ChangeFault::CompressedColumn);
     let deflated = with(A1, 9, 0x1d);
-    let cases: [(&[u8], Option<ChangeFault>); 12] = [
+    let cases: &[(&[u8], Option<ChangeFault>)] = &[
         (&repeat_of_one, bad),
         (&OTHER_ACTOR, bad),
         (&EMPTY_COLUMN, bad),
@@ -266,7 +266,7 @@ fn refuses_what_is_no_change(rt: HostRuntime) {
         (&deflated[..21], compressed),
         (&deflated[..20], bad),
     ];
-    for (bytes, fault) in cases {
+    for &(bytes, fault) in cases {
         assert_eq!(rt; fault_of(rt.alloc(), bytes), fault, "{bytes:?}");
     }
 }

@@ -83,7 +83,7 @@ fn refuses_what_is_no_document(rt: HostRuntime) {
     elsewhere[94] = 1;
     let mut compressed = ONE;
     compressed[50] = 0x1d;
-    let cases: [(&[u8], Option<DocFault>); 6] = [
+    let cases: &[(&[u8], Option<DocFault>)] = &[
         (&NULLS, bad),
         // The places of the heads may be left out; a place is that of a change row.
         (&ONE[..94], None),
@@ -92,7 +92,7 @@ fn refuses_what_is_no_document(rt: HostRuntime) {
         (&[], bad),
         (&compressed, Some(DocFault::CompressedColumn)),
     ];
-    for (bytes, fault) in cases {
+    for &(bytes, fault) in cases {
         assert_eq!(rt; DocRef::read(bytes).err(), fault, "{bytes:?}");
     }
 }

@@ -131,38 +131,37 @@ fn reads_two_change_rows(rt: HostRuntime) {
     assert!(rt; deps.next().is_some() && deps.next().is_none() && metas.next().is_none());
 }
 
+// Times, messages, dependencies and extra bytes may all be left out.
+const ALONE: &[u8] = &[0x03, 0x01, 0x02, 0x03, 0x02, 0x13, 0x02];
+
+const WITH_EXTRA: &[u8] = &[0x04, 0x01, 0x02, 0x03, 0x02, 0x13, 0x02, 0x56, 0x02];
+
+const WITH_DEPS: &[u8] = &[
+    0x05, 0x01, 0x02, 0x03, 0x02, 0x13, 0x02, 0x40, 0x02, 0x43, 0x02,
+];
+
 #[test]
 fn refuses_what_is_no_change_row(rt: HostRuntime) {
-    // Times, messages, dependencies and extra bytes may all be left out.
-    let alone: [u8; 7] = [0x03, 0x01, 0x02, 0x03, 0x02, 0x13, 0x02];
-    let with_extra: [u8; 9] = [0x04, 0x01, 0x02, 0x03, 0x02, 0x13, 0x02, 0x56, 0x02];
-    let with_deps: [u8; 11] = [
-        0x05, 0x01, 0x02, 0x03, 0x02, 0x13, 0x02, 0x40, 0x02, 0x43, 0x02,
-    ];
     // The columns, their bytes, and what is wrong with them.
-    let cases: [(&[u8], &[u8], Option<&str>); 8] = [
-        (&alone, b"\x7f\x00\x7f\x01\x7f\x00", None),
-        (&alone, b"\x7f\x01\x7f\x01\x7f\x00", Some("no such actor")),
-        (&alone, b"\x7f\x00\x7f\x00\x7f\x00", Some("a number of 0")),
-        (&alone, b"\x7f\x00\x00\x01\x7f\x00", Some("a null")),
-        (&with_extra, b"\x7f\x00\x7f\x01\x7f\x00\x7f\x00", None),
+    let cases: &[(&[u8], &[u8], Option<&str>)] = &[
+        (ALONE, b"\x7f\x00\x7f\x01\x7f\x00", None),
+        (ALONE, b"\x7f\x01\x7f\x01\x7f\x00", Some("no such actor")),
+        (ALONE, b"\x7f\x00\x7f\x00\x7f\x00", Some("a number of 0")),
+        (ALONE, b"\x7f\x00\x00\x01\x7f\x00", Some("a null")),
+        (WITH_EXTRA, b"\x7f\x00\x7f\x01\x7f\x00\x7f\x00", None),
         (
-            &with_extra,
+            WITH_EXTRA,
             b"\x7f\x00\x7f\x01\x7f\x00\x7f\x01",
             Some("extra bytes of kind 1"),
         ),
+        (WITH_DEPS, b"\x7f\x00\x7f\x01\x7f\x00\x7f\x01\x7f\x00", None),
         (
-            &with_deps,
-            b"\x7f\x00\x7f\x01\x7f\x00\x7f\x01\x7f\x00",
-            None,
-        ),
-        (
-            &with_deps,
+            WITH_DEPS,
             b"\x7f\x00\x7f\x01\x7f\x00\x7f\x01\x7f\x01",
             Some("a dependency that is no change row"),
         ),
     ];
-    for (metadata, body, wrong) in cases {
+    for &(metadata, body, wrong) in cases {
         assert_eq!(rt;
             metas_of(metadata, body).is_none(),
             wrong.is_some(),

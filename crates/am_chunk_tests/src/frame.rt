@@ -32,7 +32,7 @@ fn reads_and_writes_chunks(rt: HostRuntime) -> Result<(), Fail> {
 #[test]
 fn names_what_is_wrong_with_a_chunk(rt: HostRuntime) -> Result<(), Fail> {
     // What stands in place of magic, checksum, type and length of the change, and the fault.
-    let table: [(&[u8], FrameFault); 8] = [
+    let table: &[(&[u8], FrameFault)] = &[
         (
             b"\x84\x6f\x4a\x83\xd8\x9a\xa0\x4d\x01\x20",
             FrameFault::BadMagic,
@@ -66,7 +66,7 @@ fn names_what_is_wrong_with_a_chunk(rt: HostRuntime) -> Result<(), Fail> {
             FrameFault::BadChecksum,
         ),
     ];
-    for (head, fault) in table {
+    for &(head, fault) in table {
         let mut bytes = head.to_vec(rt.alloc())?;
         bytes.extend_from_slice(&FILE[10..])?;
         assert_eq!(rt; next_frame(&bytes).err(), Some(fault), "at {head:?}");

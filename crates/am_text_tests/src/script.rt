@@ -39,7 +39,7 @@ fn lines_are_commands(rt: HostRuntime) -> Result<(), Fail> {
     assert!(rt; matches!(read_line(alloc, b""), Ok(None)));
     let show = format!(in alloc; "show {A_HASH} {A_HASH}")?;
     let export = format!(in alloc; "export {A_HASH} A1")?;
-    let cases: [(&[u8], (&str, &str, u64)); 10] = [
+    let cases: &[(&[u8], (&str, &str, u64))] = &[
         (b"frames A1", ("frames", "A1", 0)),
         (b"show", ("show", "", 0)),
         (show.as_bytes(), ("show", "", 2)),
@@ -51,7 +51,7 @@ fn lines_are_commands(rt: HostRuntime) -> Result<(), Fail> {
         (b"bench 0", ("bench", "", 0)),
         (b"bench 100000", ("bench", "", 100_000)),
     ];
-    for (line, want) in cases {
+    for &(line, want) in cases {
         match read_line(alloc, line) {
             Ok(Some(command)) => assert_eq!(rt; parts(&command), want),
             _ => assert!(rt; false, "{want:?}"),
@@ -65,7 +65,7 @@ fn lines_are_refused(rt: HostRuntime) -> Result<(), Fail> {
     let alloc = rt.alloc();
     let long = vec![in alloc; b'x'; 65_537]?;
     assert!(rt; matches!(read_line(alloc, &long), Err(LineFault::TooLong)));
-    let cases: [(&[u8], LineFault); 13] = [
+    let cases: &[(&[u8], LineFault)] = &[
         (&long[1..], LineFault::Syntax),
         (b"show x", LineFault::BadHash),
         (b"conflicts x", LineFault::BadHash),
@@ -80,7 +80,7 @@ fn lines_are_refused(rt: HostRuntime) -> Result<(), Fail> {
         (b"bench +1", LineFault::Syntax),
         (b"bench 18446744073709551617", LineFault::Syntax),
     ];
-    for (line, fault) in cases {
+    for &(line, fault) in cases {
         assert_eq!(rt; read_line(alloc, line).err(), Some(fault), "{line:?}");
     }
     Ok(())
@@ -111,13 +111,13 @@ fn words_have_plans(rt: HostRuntime) -> Result<(), Fail> {
     let run = words(&rt, &["run"])?;
     assert!(rt; matches!(plan(alloc, run.as_slice()), Ok(Plan::ReadInput)));
     // The words, and those of the commands that they mean.
-    let cases: [(&[&str], &[&str]); 4] = [
+    let cases: &[(&[&str], &[&str])] = &[
         (&["show", "d", A_HASH], &["load", "show"]),
         (&["check", "d"], &["load"]),
         (&["normalize", "x", "y"], &["load", "save"]),
         (&["history", "d"], &["load", "history"]),
     ];
-    for (texts, want) in cases {
+    for &(texts, want) in cases {
         let list = words(&rt, texts)?;
         match plan(alloc, list.as_slice()) {
             Ok(Plan::Lines(lines)) => assert!(rt;
@@ -137,7 +137,7 @@ fn words_have_plans(rt: HostRuntime) -> Result<(), Fail> {
 #[test]
 fn words_have_no_plan(rt: HostRuntime) -> Result<(), Fail> {
     let alloc = rt.alloc();
-    let cases: [&[&str]; 6] = [
+    let cases: &[&[&str]] = &[
         &[],
         &["show"],
         &["show", "d", "x"],
@@ -145,7 +145,7 @@ fn words_have_no_plan(rt: HostRuntime) -> Result<(), Fail> {
         &["check", "-d"],
         &["history", "d", "e"],
     ];
-    for texts in cases {
+    for &texts in cases {
         let list = words(&rt, texts)?;
         let fault = plan(alloc, list.as_slice()).err();
         assert_eq!(rt; fault, Some(PlanFault::BadWords), "{texts:?}");
