@@ -1,7 +1,7 @@
--- A valid set in another order, and without hashes.
-use Rattle.std.proofs.Common.{◌≡◌, ◌∙◌, List, [], ◌∷◌, refl, sym, ap}
-use Rattle.std.specs.List.Sorted.{IsPermutation}
-use Rattle.std.proofs.lemmas.List.Sorted.{IsPermutation-map, IsPermutation-sym, IsPermutation-trans}
+-- A valid set with two members exchanged, and without hashes.
+use Rattle.std.proofs.Common.{ℕ, ◌≡◌, ◌∙◌, ◌<◌, List, [], ◌∷◌, length, refl, sym, ap}
+use Rattle.std.specs.List.{swap}
+use Rattle.std.proofs.lemmas.List.Sorted.{IsPermutation-swap, IsPermutation-map, IsPermutation-sym, IsPermutation-trans}
 use Rattle.am_types.specs.declared.Hash.{Hash}
 use Rattle.am_types.specs.declared.Change.{Change}
 use Rattle.am_types.specs.Members.{changes}
@@ -9,9 +9,9 @@ use Rattle.am_types.specs.ValidSets.{IsValidSet, Valid}
 use Rattle.am_delivery.specs.Waiting.{member_of, members_of}
 use Rattle.am_rebuild.specs.Documents.{changes_of}
 
-pub valid_in_any_order : (es fs : List (Hash × Change)) → IsPermutation es fs → Valid (members_of es) → Valid (members_of fs)
-valid_in_any_order es fs p v =
-    let moved = IsPermutation-map member_of es fs p in
+pub valid_exchanged : (es fs : List (Hash × Change)) (i j : ℕ) → i < length es → j < length es → fs ≡ swap es i j → Valid (members_of es) → Valid (members_of fs)
+valid_exchanged es fs i j low_i low_j is v =
+    let moved = IsPermutation-map member_of es fs (IsPermutation-swap es fs i j low_i low_j is) in
     record {
       listing = v.listing;
       same = IsPermutation-trans (members_of fs) (members_of es) v.listing (IsPermutation-sym (members_of es) (members_of fs) moved) v.same;

@@ -24,28 +24,34 @@ fn join(alloc: Global, gathered: &mut Gathered, mut change: Change) -> Result<()
     Ok(())
 }
 
-// The changes that have these numbers, in ascending order of the numbers, and these in this order.
-fn joined(
+// Takes in the changes that have these numbers, in ascending order of the numbers. Gives these in this order.
+fn join_all(
     alloc: Global,
+    gathered: &mut Gathered,
     history: &History,
     numbers: &[usize],
-) -> Result<(Gathered, Vec<usize>), Fail> {
-    let mut gathered = Gathered::new(alloc);
+) -> Result<Vec<usize>, Fail> {
     let mut taken = Vec::new(alloc);
     for number in 0..MOST {
         if numbers.contains(&number) {
             let Some(change) = change_at(alloc, history, number)? else {
                 return Err(Fail::from("no such change"));
             };
-            join(alloc, &mut gathered, change)?;
+            join(alloc, gathered, change)?;
             taken.push(number)?;
         }
     }
-    Ok((gathered, taken))
+    Ok(taken)
+}
+
+// The changes that joined.
+fn entries_of(gathered: Gathered) -> Vec<(Hash, Change)>
+    ensures { Valid (members_of (vec_items result)) }
+{
+    gathered.into_rebuilt().entries
 }
 
 // Exchanges two changes, if they are there.
-#[tactic(auto, using(crate::proofs::ValidSets::valid_in_any_order))]
 fn exchange(entries: &mut Vec<(Hash, Change)>, i: usize, j: usize)
     requires { Valid (members_of entries.old.items) }
     ensures { Valid (members_of entries.new.items) }
@@ -97,8 +103,9 @@ fn without_hashes(alloc: Global, entries: Vec<(Hash, Change)>) -> Result<Vec<Cha
 pub fn valid_set(alloc: Global, history: &History, numbers: &[usize]) -> Result<Vec<Change>, Fail>
     ensures { IfOk result (λ changes. IsValidSet (vec_items changes)) }
 {
-    let (gathered, mut taken) = joined(alloc, history, numbers)?;
-    let mut entries = gathered.into_rebuilt().entries;
+    let mut gathered = Gathered::new(alloc);
+    let mut taken = join_all(alloc, &mut gathered, history, numbers)?;
+    let mut entries = entries_of(gathered);
     put_in_order(&mut entries, &mut taken, numbers)?;
     Ok(without_hashes(alloc, entries)?)
 }
