@@ -141,7 +141,8 @@ impl<'a> DocRef<'a> {
         }
     }
 
-    /// The document that these contents are known to spell. No row is judged.
+    /// The document that these contents are known to spell. No row is judged; of both sorts the column that tells how many rows
+    /// there are is passed once.
     pub fn spelled(contents: &'a [u8]) -> DocRef<'a>
         requires { (t : ATable) × SpellsTable contents.now t }
         ensures { SpellsTable contents.now result }

@@ -100,7 +100,8 @@ fn unnamed_within(numbers: &WholeColumn<'_>, stretch: Stretch, counters: &[u64])
 }
 
 /// How many ids come before the first that has one of these counters. A stretch of ids whose counters each differ alike
-/// from the one before costs one search.
+/// from the one before costs one search at most, unless it doesn't count up by one and one of these counters stands between
+/// its ends: then each is searched.
 pub fn count_unnamed(ids: &IdColumns<'_>, counters: &[u64]) -> u64
     requires { IsSorted nat_cmp counters.now }
     ensures few { result ≤ length ids.now }
