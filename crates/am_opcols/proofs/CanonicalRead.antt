@@ -4,7 +4,7 @@
 --     found_canonical              and the other way round
 --     tested                       the tests tell that the columns and the other actors are the canonical ones
 --     untested                     which pass the tests
-use Rattle.std.proofs.Common.{◌≡◌, ℕ, zero, suc, ◌<◌, ◌≤◌, ◌^◌, List, [], ◌∷◌, ◌++◌, length, map, Option, Some, None, Bool, true, false, cond, refl, sym, ap, ◌∙◌, subst, arith, inl, inr, ◌⊎◌, ⊎_elim}
+use Rattle.std.proofs.Common.{◌≡◌, ℕ, zero, suc, ◌<◌, ◌≤◌, ◌^◌, List, [], ◌∷◌, length, map, Some, true, false, cond, refl, sym, ap, ◌∙◌, subst, arith, inl, inr, ◌⊎◌, ⊎_elim}
 use Rattle.std.specs.Prelude.{Contains, nat_eq}
 use Rattle.std.proofs.lemmas.Bool.Decides.{nat_tests}
 use Rattle.std.specs.List.{flat_map, AllByRecursion}
@@ -25,14 +25,14 @@ use Rattle.am_colmeta.specs.Metadata.{listing, column_at, not_empty, Ascend, Asc
 use Rattle.am_colmeta.specs.Judgement.{AreKnown}
 use Rattle.am_colmeta.proofs.Filled.{IsAmong, AreAmong, AreFound, filled_are}
 use Rattle.am_colmeta.proofs.Judging.{found_without_empty}
-use Rattle.am_fields.specs.Columns.{SpellsNumbers, SpellsColumns, place_of, numbers_bytes, spellings}
+use Rattle.am_fields.specs.Columns.{SpellsNumbers, numbers_bytes, spellings}
 use Rattle.am_fields.specs.Layout.{object_actor, object_counter, key_actor, key_counter, key_string, id_actor, id_counter, flat}
-use Rattle.am_opcols.specs.Columns.{op_columns, op_specifications, AreOpsWithin, SpellsOps}
+use Rattle.am_opcols.specs.Columns.{op_columns, op_specifications, SpellsOps}
 use Rattle.am_fields.specs.Actors.{IsListed}
 use Rattle.am_opcols.specs.Others.{actors_of, others}
 use Rattle.am_opcols.specs.Writing.{written_columns}
 use Rattle.am_opcols.specs.Chains.{Chain}
-use Rattle.am_opcols.specs.EachColumn.{AreNumbersCanonical, AreRemainingCanonical, AreNamed}
+use Rattle.am_opcols.specs.EachColumn.{AreNumbersCanonical, AreRemainingCanonical, ArePlain, AreNamed}
 use Rattle.am_opcols.proofs.WrittenOps.{ascending}
 use Rattle.am_opcols.proofs.EachColumnLaws.{Distinct, numbers_tell, numbers_back, texts_tell, texts_back, deltas_tell, deltas_back, flags_tell, flags_back, maybe_tell, maybe_back, actors_tell, actors_back, names_there}
 use Rattle.am_opcols.proofs.ListedLaws.{Distinct-from_up, own_others, others_are_named, named_somewhere}
@@ -233,19 +233,15 @@ listed_named author os columns ops w a h =
     (named_somewhere ops a h)
 
 pub tested : (author : List ℕ) (os : List (List ℕ)) (columns : List (ℕ × List ℕ)) (ops : List Op) → SpellsOps (author ∷ os) columns ops → Ascend (listing columns) → AreKnown op_specifications (listing columns)
-    → AreFilled (listing columns) → AreNumbersCanonical columns → AreRemainingCanonical columns → Chain bytes_cmp os → (IsListed os author → ⊥) → AreNamed os ops → (os ≡ others author ops) × (columns ≡ written_columns author ops)
-tested author os columns ops w up all filled n t ascends apart named =
-    let own = own_others author ops os ascends apart named (listed_named author os columns ops w) in
-    let found = canonical_found columns (author ∷ os) ops (Distinct-from_up author os ascends apart) w n t in
-    let are = filled_are 0 columns (spellings (author ∷ os) (op_columns ops)) (from_zero columns up all) (ascending_from (author ∷ os) ops) filled (all_among (author ∷ os) ops columns all) found in
+    → ArePlain author os columns → AreNamed os ops → (os ≡ others author ops) × (columns ≡ written_columns author ops)
+tested author os columns ops w up all plain named =
+    let own = own_others author ops os plain.ascend plain.apart named (listed_named author os columns ops w) in
+    let found = canonical_found columns (author ∷ os) ops (Distinct-from_up author os plain.ascend plain.apart) w plain.numbers plain.rest in
+    let are = filled_are 0 columns (spellings (author ∷ os) (op_columns ops)) (from_zero columns up all) (ascending_from (author ∷ os) ops) plain.filled (all_among (author ∷ os) ops columns all) found in
     (own, are ∙ ap (λ zs. not_empty (spellings (author ∷ zs) (op_columns ops))) own)
 
 pub record Passed (author : List ℕ) (os : List (List ℕ)) (columns : List (ℕ × List ℕ)) (ops : List Op) : Type 0 where
-  pub filled : AreFilled (listing columns)
-  pub numbers : AreNumbersCanonical columns
-  pub rest : AreRemainingCanonical columns
-  pub ascend : Chain bytes_cmp os
-  pub apart : IsListed os author → ⊥
+  pub plain : ArePlain author os columns
   pub named : AreNamed os ops
 
 pub untested : (author : List ℕ) (os : List (List ℕ)) (columns : List (ℕ × List ℕ)) (ops : List Op) → SpellsOps (author ∷ os) columns ops → os ≡ others author ops → columns ≡ written_columns author ops → Passed author os columns ops
@@ -257,10 +253,12 @@ untested author os columns ops w o e =
     let same : columns ≡ not_empty (spellings (author ∷ os) (op_columns ops)) = e ∙ ap (λ zs. not_empty (spellings (author ∷ zs) (op_columns ops))) (sym o) in
     let found = written_found columns (author ∷ os) ops same in
     record {
-      filled = subst (λ cs. AreFilled (listing cs)) (sym same) (filled_columns (spellings (author ∷ os) (op_columns ops)));
-      numbers = found_numbers columns (author ∷ os) ops d w found;
-      rest = found_others columns (author ∷ os) ops w found;
-      ascend = ascends;
-      apart = apart;
+      plain = record {
+        filled = subst (λ cs. AreFilled (listing cs)) (sym same) (filled_columns (spellings (author ∷ os) (op_columns ops)));
+        numbers = found_numbers columns (author ∷ os) ops d w found;
+        rest = found_others columns (author ∷ os) ops w found;
+        ascend = ascends;
+        apart = apart;
+      };
       named = subst (λ zs. AreNamed zs ops) (sym o) theirs.2;
     }

@@ -4,17 +4,21 @@
 --     AreNumbersCanonical columns           so is each column of numbers, places among them
 --     AreRemainingCanonical columns         so is each column of deltas, texts and flags; that of the insert flags stands
 --                                           where there are operations
+--     ArePlain author actors columns        no listed column is empty, each is canonical, and the actors ascend, without the
+--                                           author
 --     AreNamed actors ops                   the operations name each of the actors
-use Rattle.std.specs.Prelude.{◌≡◌, ℕ, ◌≤◌, ◌^◌, List, [], ◌∷◌, length, Option, Bool, ℤ}
+use Rattle.std.specs.Prelude.{◌≡◌, ℕ, ◌≤◌, ◌^◌, List, [], length, Option, Bool, ℤ}
 use Rattle.std.specs.List.{flat_map, AllByRecursion}
 use Rattle.am_types.specs.declared.Op.{Op}
 use Rattle.am_runs.specs.Items.{unsigned_end, text_end}
 use Rattle.am_runs.specs.Canonical.{Canon}
 use Rattle.am_delta.specs.Deltas.{CanonDeltas}
 use Rattle.am_flags.specs.Flags.{CanonFlags, CanonMaybe}
-use Rattle.am_colmeta.specs.Metadata.{column_at}
+use Rattle.am_types.specs.Order.{bytes_cmp}
+use Rattle.am_colmeta.specs.Metadata.{column_at, listing, AreFilled}
 use Rattle.am_fields.specs.Actors.{IsListed}
 use Rattle.am_opcols.specs.Others.{actors_of}
+use Rattle.am_opcols.specs.Chains.{Chain}
 
 abbrev pub CanonicalNumbers : List ℕ → Type 0
 CanonicalNumbers bytes = (list : List (Option (List ℕ))) × Canon unsigned_end bytes list × (length list ≤ 2 ^ 22)
@@ -48,6 +52,13 @@ pub record AreRemainingCanonical (columns : List (ℕ × List ℕ)) : Type 0 whe
   pub insert : CanonicalFlags (column_at columns 52)
   pub insert_stands : column_at columns 52 ≡ [] → column_at columns 66 ≡ []
   pub expand : CanonicalMaybe (column_at columns 148)
+
+pub record ArePlain (author : List ℕ) (actors : List (List ℕ)) (columns : List (ℕ × List ℕ)) : Type 0 where
+  pub filled : AreFilled (listing columns)
+  pub numbers : AreNumbersCanonical columns
+  pub rest : AreRemainingCanonical columns
+  pub ascend : Chain bytes_cmp actors
+  pub apart : IsListed actors author → ⊥
 
 abbrev pub AreNamed : List (List ℕ) → List Op → Type 0
 AreNamed actors ops = AllByRecursion (IsListed (flat_map actors_of ops)) actors

@@ -5,11 +5,27 @@ ghost use Rattle.am_colmeta.specs.Judgement.{AreKnown};
 ghost use Rattle.am_opcols.specs.Columns.{op_specifications, SpellsOps};
 ghost use Rattle.am_opcols.specs.Others.{others as others_of};
 ghost use Rattle.am_opcols.specs.Writing.{written_columns};
+ghost use Rattle.am_opcols.specs.EachColumn.{ArePlain};
 
 use crate::cursor::OpCursor;
 use crate::each_column::{are_numbers_canonical, are_remaining_canonical};
+use crate::found::OpColumns;
 use crate::listed::{are_named, ascend, lists};
+use crate::naming::are_named_by;
 use am_colmeta::{ActorList, Columns};
+use am_types::Op;
+
+// Whether no column is empty, each is the canonical spelling of some list, and the other actors ascend, without the
+// author.
+fn are_plain(columns: &OpColumns<'_>, author: &[u8], others: &ActorList<'_>) -> bool
+    ensures { IsTrue result ↔ ArePlain author.now others.now columns.now }
+{
+    columns.are_filled()
+        && are_numbers_canonical(columns)
+        && are_remaining_canonical(columns)
+        && ascend(others)
+        && !lists(others, author)
+}
 
 /// Whether the columns and the other actors of a change, of which these operations were read, are just those that a writer
 /// of the operations leaves: no column is empty, each is the canonical spelling of some list, and the other actors ascend,
@@ -25,20 +41,33 @@ pub fn are_canonical(
     requires known { AreKnown op_specifications (listing columns.now) }
     ensures { IsTrue result ↔ ((others.now ≡ others_of author.now ops.now) × (columns.now ≡ written_columns author.now ops.now)) }
 {
-    if !columns.are_filled() {
-        return false;
+    OpColumns::of(columns.again()).are_canonical(author, others, ops)
+}
+
+impl<'a> OpColumns<'a> {
+    /// The same of columns that were found, and of a cursor over the operations.
+    pub fn are_canonical(&self, author: &[u8], others: &ActorList<'_>, ops: &OpCursor<'_>) -> bool
+        requires spelled { SpellsOps (author.now ∷ others.now) self.now ops.now }
+        requires ascend { Ascend (listing self.now) }
+        requires known { AreKnown op_specifications (listing self.now) }
+        ensures { IsTrue result ↔ ((others.now ≡ others_of author.now ops.now) × (self.now ≡ written_columns author.now ops.now)) }
+    {
+        if !are_plain(self, author, others) {
+            return false;
+        }
+        are_named(others, ops)
     }
-    if !are_numbers_canonical(columns) {
-        return false;
+
+    /// The same of operations that are owned.
+    pub fn are_canonical_of(&self, author: &[u8], others: &ActorList<'_>, ops: &[Op]) -> bool
+        requires spelled { SpellsOps (author.now ∷ others.now) self.now ops.now }
+        requires ascend { Ascend (listing self.now) }
+        requires known { AreKnown op_specifications (listing self.now) }
+        ensures { IsTrue result ↔ ((others.now ≡ others_of author.now ops.now) × (self.now ≡ written_columns author.now ops.now)) }
+    {
+        if !are_plain(self, author, others) {
+            return false;
+        }
+        are_named_by(others, ops)
     }
-    if !are_remaining_canonical(columns) {
-        return false;
-    }
-    if !ascend(others) {
-        return false;
-    }
-    if lists(others, author) {
-        return false;
-    }
-    are_named(others, ops)
 }

@@ -5,6 +5,7 @@ ghost use Rattle.am_opcols.specs.Columns.{SpellsOps};
 ghost use Rattle.am_opcols.specs.Rows.{op_of};
 
 use crate::fault::BadOps;
+use crate::found::OpColumns;
 use crate::op::OpRef;
 use am_colmeta::{ActorList, Columns};
 use am_fields::{
@@ -47,7 +48,7 @@ impl<'a> Model for OpCursor<'a> {
 
 // The cursor over columns whose places name these actors. In a change all metadata of values and all lengths of groups
 // stand.
-fn opened<'a>(columns: &Columns<'a>, actors: &Actors<'a>) -> Result<OpCursor<'a>, BadFields>
+fn opened<'a>(columns: &OpColumns<'a>, actors: &Actors<'a>) -> Result<OpCursor<'a>, BadFields>
     ensures spelled { IfOk result (SpellsOps actors.now columns.now) }
     ensures err { OnErr result ((ops : List Op) → SpellsOps actors.now columns.now ops → ⊥) }
 {
@@ -102,11 +103,7 @@ impl<'a> OpCursor<'a> {
         ensures spelled { IfOk result (SpellsOps (author.now ∷ others.entry) columns.entry) }
         ensures err { OnErr result ((ops : List Op) → SpellsOps (author.now ∷ others.entry) columns.entry ops → ⊥) }
     {
-        let actors = Actors::of_change(author, others);
-        match opened(&columns, &actors) {
-            Ok(cursor) => Ok(cursor),
-            Err(_) => Err(BadOps),
-        }
+        OpColumns::of(columns).ops(author, others)
     }
 
     /// The next operation, or None behind the last.
@@ -149,6 +146,20 @@ impl<'a> OpCursor<'a> {
             preds: self.preds.again(),
             expands: self.expands.again(),
             marks: self.marks.again(),
+        }
+    }
+}
+
+impl<'a> OpColumns<'a> {
+    /// A cursor over the operations, as `OpCursor::over` gives it.
+    pub fn ops(&self, author: &'a [u8], others: ActorList<'a>) -> Result<OpCursor<'a>, BadOps>
+        ensures spelled { IfOk result (SpellsOps (author.now ∷ others.entry) self.now) }
+        ensures err { OnErr result ((ops : List Op) → SpellsOps (author.now ∷ others.entry) self.now ops → ⊥) }
+    {
+        let actors = Actors::of_change(author, others);
+        match opened(self, &actors) {
+            Ok(cursor) => Ok(cursor),
+            Err(_) => Err(BadOps),
         }
     }
 }

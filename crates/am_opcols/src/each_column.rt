@@ -3,57 +3,57 @@ ghost use Rattle.std.specs.Prelude.{◌≡◌, ◌↔◌, [], IsTrue};
 ghost use Rattle.am_colmeta.specs.Metadata.{column_at};
 ghost use Rattle.am_opcols.specs.EachColumn.{CanonicalNumbers, CanonicalTexts, CanonicalDeltas, CanonicalFlags, CanonicalMaybe, AreNumbersCanonical, AreRemainingCanonical};
 
-use am_colmeta::Columns;
+use crate::found::OpColumns;
 use am_runs::{TextItem, UnsignedItem, is_canonical};
 
 // The most operations of a change, and the most predecessors of all together.
 const MOST: u64 = 4194304;
 
-fn has_numbers(columns: &Columns<'_>, specification: u64) -> bool
+fn has_numbers(columns: &OpColumns<'_>, specification: u64) -> bool
     ensures { IsTrue result ↔ CanonicalNumbers (column_at columns.now specification) }
 {
     is_canonical::<UnsignedItem>(columns.find(specification), MOST)
 }
 
-fn has_texts(columns: &Columns<'_>, specification: u64) -> bool
+fn has_texts(columns: &OpColumns<'_>, specification: u64) -> bool
     ensures { IsTrue result ↔ CanonicalTexts (column_at columns.now specification) }
 {
     is_canonical::<TextItem>(columns.find(specification), MOST)
 }
 
-fn has_deltas(columns: &Columns<'_>, specification: u64) -> bool
+fn has_deltas(columns: &OpColumns<'_>, specification: u64) -> bool
     ensures { IsTrue result ↔ CanonicalDeltas (column_at columns.now specification) }
 {
     am_delta::is_canonical(columns.find(specification), MOST)
 }
 
-fn has_flags(columns: &Columns<'_>, specification: u64) -> bool
+fn has_flags(columns: &OpColumns<'_>, specification: u64) -> bool
     ensures { IsTrue result ↔ CanonicalFlags (column_at columns.now specification) }
 {
     am_flags::is_canonical(columns.find(specification), MOST)
 }
 
-fn has_rare_flags(columns: &Columns<'_>, specification: u64) -> bool
+fn has_rare_flags(columns: &OpColumns<'_>, specification: u64) -> bool
     ensures { IsTrue result ↔ CanonicalMaybe (column_at columns.now specification) }
 {
     am_flags::is_canonical_maybe(columns.find(specification), MOST)
 }
 
-fn has_bytes(columns: &Columns<'_>, specification: u64) -> bool
+fn has_bytes(columns: &OpColumns<'_>, specification: u64) -> bool
     ensures { IsTrue result ↔ (column_at columns.now specification ≡ [] → ⊥) }
 {
     !columns.find(specification).is_empty()
 }
 
 // The insert flags are written wherever there is an action.
-fn inserts_stand(columns: &Columns<'_>) -> bool
+fn inserts_stand(columns: &OpColumns<'_>) -> bool
     ensures { IsTrue result ↔ (column_at columns.now 52 ≡ [] → column_at columns.now 66 ≡ []) }
 {
     has_bytes(columns, 52) || !has_bytes(columns, 66)
 }
 
 // Whether the columns of numbers are canonical.
-pub fn are_numbers_canonical(columns: &Columns<'_>) -> bool
+pub fn are_numbers_canonical(columns: &OpColumns<'_>) -> bool
     ensures { IsTrue result ↔ AreNumbersCanonical columns.now }
 {
     has_numbers(columns, 1)
@@ -66,7 +66,7 @@ pub fn are_numbers_canonical(columns: &Columns<'_>) -> bool
 }
 
 // Whether the columns of deltas, texts and flags are canonical.
-pub fn are_remaining_canonical(columns: &Columns<'_>) -> bool
+pub fn are_remaining_canonical(columns: &OpColumns<'_>) -> bool
     ensures { IsTrue result ↔ AreRemainingCanonical columns.now }
 {
     has_deltas(columns, 19)

@@ -18,7 +18,8 @@ use am_fields::IdCursor;
 use am_types::{KeyRef, ObjRef};
 use std::cmp::Ordering;
 
-fn is_same(a: &[u8], b: &[u8]) -> bool
+// Whether the bytes are the same.
+pub fn is_same(a: &[u8], b: &[u8]) -> bool
     ensures { IsTrue result ↔ (a.now ≡ b.now) }
 {
     a == b

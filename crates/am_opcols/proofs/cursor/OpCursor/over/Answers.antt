@@ -1,4 +1,4 @@
 use Rattle.am_opcols.proofs.cursor.OpCursor.over.Goals as goal
 
-pub returns-in-Err-clause-err : goal.returns-in-Err-clause-err
-returns-in-Err-clause-err c = rw c.of_change-actors.ensures at c.in-Err.ensures.err
+pub returns-clause-err : goal.returns-clause-err
+returns-clause-err c = rw c.of.ensures at c.ops.ensures.err
