@@ -1,5 +1,6 @@
 //! Reading a change back from the contents of its chunk.
-ghost use Rattle.std.specs.Prelude.{◌≡◌, ◌<◌, ◌≤◌, ◌^◌, ◌*◌, ◌++◌, ◌∷◌, ◌⊎◌, ◌↔◌, length, IsTrue, IfSome, IsSomeAnd};
+ghost use Rattle.std.specs.Prelude.{◌≡◌, ◌<◌, ◌≤◌, ◌^◌, ◌*◌, ◌++◌, ◌∷◌, ◌⊎◌, ◌↔◌, length, IsTrue, IfOk, IfSome, IsSomeAnd};
+ghost use Rattle.std.specs.List.{AllByRecursion};
 ghost use Rattle.am_types.specs.declared.Change.{Change};
 ghost use Rattle.am_types.specs.Fine.{Fine};
 ghost use Rattle.am_colmeta.specs.Metadata.{listing, body, Ascend};
@@ -9,16 +10,17 @@ ghost use Rattle.am_opcols.specs.Others.{others as others_of};
 ghost use Rattle.am_opcols.specs.Writing.{written_columns};
 ghost use Rattle.am_change.specs.Contents.{contents};
 ghost use Rattle.am_change.specs.Fronts.{front as front_in};
-ghost use Rattle.am_change.specs.Building.{front_of};
+ghost use Rattle.am_change.specs.Building.{front_of, change_with, IsOpWithin};
 ghost use Rattle.am_change.specs.Judgement.{Judges};
 
-use crate::change_ref::ChangeRef;
+use crate::copying::{actor_in, bytes_in, hashes_of, ops_in, text_in};
 use crate::fault::ChangeFault;
+use crate::fine::is_fine;
 use crate::front::FrontRef;
 use am_colmeta::Columns;
-use am_opcols::{OpCursor, are_canonical};
-use am_types::Change;
-use std::alloc::Global;
+use am_opcols::{OpColumns, OpCursor};
+use am_types::{Change, Op};
+use std::alloc::{AllocError, Global};
 use std::str::from_utf8;
 
 // The specifications of the columns that the operations of a change may have.
@@ -28,7 +30,7 @@ const KNOWN: [u64; 14] = [1, 2, 17, 19, 21, 52, 66, 86, 87, 112, 113, 115, 148, 
 // the columns.
 #[derive(Drop)]
 pub struct Behind<'a> {
-    pub columns: Columns<'a>,
+    pub columns: OpColumns<'a>,
     pub ops: OpCursor<'a>,
     pub message: &'a str,
     pub extra: &'a [u8],
@@ -55,7 +57,8 @@ pub fn opened<'a>(front: &FrontRef<'a>, rest: &'a [u8]) -> Option<Behind<'a>>
     let Ok(columns) = Columns::over(front.listed.again(), body, &KNOWN) else {
         return None;
     };
-    let Ok(ops) = OpCursor::over(columns.again(), front.actor, front.others.again()) else {
+    let columns = OpColumns::of(columns);
+    let Ok(ops) = columns.ops(front.actor, front.others.again()) else {
         return None;
     };
     let Ok(message) = from_utf8(front.message) else {
@@ -79,7 +82,8 @@ pub fn is_canonical(front: &FrontRef<'_>, behind: &Behind<'_>) -> bool
     requires known { AreKnown op_specifications (listing behind.now.columns) }
     ensures { IsTrue result ↔ ((front.now.others ≡ others_of front.now.actor.now behind.now.ops) × (behind.now.columns ≡ written_columns front.now.actor.now behind.now.ops)) }
 {
-    are_canonical(&behind.columns, front.actor, &front.others, &behind.ops)
+    let columns = &behind.columns;
+    columns.are_canonical(front.actor, &front.others, &behind.ops)
 }
 
 // The length of a slice fits 64 bits.
@@ -89,17 +93,62 @@ pub fn length_known(bytes: &[u8])
     let _size = bytes.len();
 }
 
-// The change with these contents.
+// The same, of operations that were copied.
+fn is_canonical_of(front: &FrontRef<'_>, behind: &Behind<'_>, ops: &[Op]) -> bool
+    requires spelled { SpellsOps (front.now.actor.now ∷ front.now.others) behind.now.columns ops.now }
+    requires ascend { Ascend (listing behind.now.columns) }
+    requires known { AreKnown op_specifications (listing behind.now.columns) }
+    ensures { IsTrue result ↔ ((front.now.others ≡ others_of front.now.actor.now ops.now) × (behind.now.columns ≡ written_columns front.now.actor.now ops.now)) }
+{
+    let columns = &behind.columns;
+    columns.are_canonical_of(front.actor, &front.others, ops)
+}
+
+// The change of these parts, owned. It needn't be fine.
+fn copied(alloc: Global, front: &FrontRef<'_>, behind: &Behind<'_>) -> Result<Change, AllocError>
+    requires hashes { length front.now.hashes.now ≡ 32 * front.now.count }
+    requires message { behind.now.message.now ≡ front.now.message.now }
+    requires some { 1 ≤ length front.now.actor.now }
+    requires few { length front.now.actor.now ≤ 1024 }
+    requires within { AllByRecursion IsOpWithin behind.now.ops }
+    ensures { IfOk result (λ c. c ≡ change_with (front_of front.now) behind.now.ops behind.now.extra.now) }
+{
+    Ok(Change {
+        deps: hashes_of(alloc, front.hashes, front.count)?,
+        actor: actor_in(alloc, front.actor)?,
+        seq: front.seq,
+        start: front.start,
+        time: front.time,
+        message: text_in(alloc, behind.message)?,
+        ops: ops_in(alloc, behind.ops.again())?,
+        extra: bytes_in(alloc, behind.extra)?,
+    })
+}
+
+// The change with these contents. It is copied before it is judged, so that its operations are read once.
 fn parsed(alloc: Global, bytes: &[u8]) -> Result<Change, ChangeFault>
     ensures { Judges bytes.now result }
 {
-    match ChangeRef::read(bytes) {
-        Err(fault) => Err(fault),
-        Ok(change) => match change.to_owned(alloc) {
-            Err(_) => Err(ChangeFault::NoMemory),
-            Ok(owned) => Ok(owned),
-        },
+    length_known(bytes);
+    let Some((front, rest)) = FrontRef::read(bytes) else {
+        return Err(ChangeFault::BadChange);
+    };
+    if front.listed.compressed() {
+        return Err(ChangeFault::CompressedColumn);
     }
+    let Some(behind) = opened(&front, rest) else {
+        return Err(ChangeFault::BadChange);
+    };
+    let Ok(change) = copied(alloc, &front, &behind) else {
+        return Err(ChangeFault::NoMemory);
+    };
+    if !is_fine(&change) {
+        return Err(ChangeFault::BadChange);
+    }
+    if !is_canonical_of(&front, &behind, change.ops.as_slice()) {
+        return Err(ChangeFault::BadChange);
+    }
+    Ok(change)
 }
 
 /// The change with these contents of a chunk (Automerge Binary Document Format, "Change Chunks"). CompressedColumn where

@@ -1,0 +1,68 @@
+use Rattle.std.proofs.Common.{◌≡◌, ◌∷◌, refl, sym, subst, ap, ◌∙◌}
+use Rattle.am_types.specs.declared.Change.{Change}
+use Rattle.am_types.specs.Fine.{Fine}
+use Rattle.am_opcols.specs.Columns.{SpellsOps}
+use Rattle.am_opcols.specs.Others.{others}
+use Rattle.am_opcols.specs.Writing.{written_columns}
+use Rattle.am_change.specs.Contents.{contents}
+use Rattle.am_change.specs.Building.{front_of, change_with}
+use Rattle.am_change.proofs.Parsing.{no_front, no_change, same_change, ops_within}
+use Rattle.am_change.proofs.InPlace.{own_contents, canonical_as}
+use Rattle.am_change.proofs.parse.parsed.Goals as goal
+
+pub returns-in_default : goal.returns-in_default
+returns-in_default c = no_front c.args.bytes.now c.length_known.ensures (λ f rest is e. c.in_default.ensures.only f rest is e)
+
+pub returns-in_default-opened : goal.returns-in_default-opened
+returns-in_default-opened c =
+    no_change c.args.bytes.now (front_of c.in-Some.front) c.in-Some.rest.now c.length_known.ensures c.in-Some.ensures.some.0 c.in-Some.ensures.some.1 (λ h. absurd (cc (c.if-compressed.ensures.some.1 h)))
+    (λ d fine s e r b. c.in_default-opened.ensures.only d fine s e r)
+
+pub copied-requires : goal.copied-requires
+copied-requires c =
+    let behind = c.in-Some-opened.behind in
+    record {
+      hashes = c.in-Some.ensures.some.2;
+      message = c.in-Some-opened.ensures.message;
+      some = c.in-Some-opened.ensures.some;
+      few = c.in-Some-opened.ensures.few;
+      within = ops_within behind.ops (c.in-Some-opened.ensures.spelled).within;
+    }
+
+pub returns-then-not-is_fine : goal.returns-then-not-is_fine
+returns-then-not-is_fine c =
+    let behind = c.in-Some-opened.behind in
+    no_change c.args.bytes.now (front_of c.in-Some.front) c.in-Some.rest.now c.length_known.ensures c.in-Some.ensures.some.0 c.in-Some.ensures.some.1 (λ h. absurd (cc (c.if-compressed.ensures.some.1 h)))
+    (λ d fine s e r b.
+    let got = c.in-Some-opened.ensures.only d fine s e r in
+    let same : c.in-Ok.change ≡ d = c.in-Ok.ensures ∙ same_change (front_of c.in-Some.front) behind.ops behind.extra.now d e got.0 got.1 in
+    absurd (cc (c.if-not-is_fine.ensures.1 (subst Fine (sym same) fine))))
+
+pub is_canonical_of-requires : goal.is_canonical_of-requires
+is_canonical_of-requires c =
+    let behind = c.in-Some-opened.behind in
+    let same : c.as_slice.result.now ≡ behind.ops = c.as_slice.ensures ∙ ap (λ (x : Change). x.ops) c.in-Ok.ensures in
+    record {
+      spelled = subst (SpellsOps ((front_of c.in-Some.front).actor ∷ (front_of c.in-Some.front).others) behind.columns) (sym same) c.in-Some-opened.ensures.spelled;
+      ascend = c.in-Some-opened.ensures.ascend;
+      known = c.in-Some-opened.ensures.are_known;
+    }
+
+pub returns-then-not-is_canonical_of : goal.returns-then-not-is_canonical_of
+returns-then-not-is_canonical_of c =
+    let behind = c.in-Some-opened.behind in
+    let own : c.as_slice.result.now ≡ behind.ops = c.as_slice.ensures ∙ ap (λ (x : Change). x.ops) c.in-Ok.ensures in
+    no_change c.args.bytes.now (front_of c.in-Some.front) c.in-Some.rest.now c.length_known.ensures c.in-Some.ensures.some.0 c.in-Some.ensures.some.1 (λ h. absurd (cc (c.if-compressed.ensures.some.1 h)))
+    (λ d fine s e r b.
+    let got = c.in-Some-opened.ensures.only d fine s e r in
+    absurd (cc (c.if-not-is_canonical_of.ensures.1 (canonical_as (front_of c.in-Some.front) behind.columns c.as_slice.result.now d e (own ∙ got.0) got.2))))
+
+pub returns : goal.returns
+returns c =
+    let behind = c.in-Some-opened.behind in
+    let f = front_of c.in-Some.front in
+    let own : c.as_slice.result.now ≡ behind.ops = c.as_slice.ensures ∙ ap (λ (x : Change). x.ops) c.in-Ok.ensures in
+    let canonical = c.if-not-is_canonical_of.ensures.0 refl in
+    let told = own_contents c.args.bytes.now c.in-Some.rest.now f behind.columns behind.ops behind.extra.now c.in-Some.ensures.some.1 c.in-Some-opened.ensures.joined c.in-Some-opened.ensures.listed
+    (canonical.0 ∙ ap (others f.actor) own) (canonical.1 ∙ ap (written_columns f.actor) own) in
+    (c.if-not-is_fine.ensures.0 refl, subst (λ (x : Change). c.args.bytes.now ≡ contents x) (sym c.in-Ok.ensures) told)
