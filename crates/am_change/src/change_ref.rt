@@ -2,7 +2,7 @@
 ghost use Rattle.std.specs.Prelude.{◌≡◌, length, IfOk, Err};
 ghost use Rattle.am_change.specs.Judgement.{Judges};
 
-use crate::copying::{actor_in, bytes_in, hashes_of, ops_in, text_in};
+use crate::copying::change_in;
 use crate::fault::ChangeFault;
 use crate::fine_parts::are_fine;
 use crate::front::FrontRef;
@@ -139,15 +139,12 @@ impl<'a> ChangeRef<'a> {
     pub fn to_owned(&self, alloc: Global) -> Result<Change, AllocError>
         ensures { IfOk result (λ c. c ≡ self.now) }
     {
-        Ok(Change {
-            deps: hashes_of(alloc, self.front.hashes, self.front.count)?,
-            actor: actor_in(alloc, self.front.actor)?,
-            seq: self.front.seq,
-            start: self.front.start,
-            time: self.front.time,
-            message: text_in(alloc, self.message)?,
-            ops: ops_in(alloc, self.ops.again())?,
-            extra: bytes_in(alloc, self.extra)?,
-        })
+        change_in(
+            alloc,
+            &self.front,
+            self.message,
+            self.ops.again(),
+            self.extra,
+        )
     }
 }

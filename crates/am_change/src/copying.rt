@@ -4,17 +4,18 @@ ghost use Rattle.std.specs.List.{AllByRecursion};
 ghost use Rattle.am_types.specs.Views.{id_of, object_of, key_of, value_of};
 ghost use Rattle.am_fields.specs.Limits.{IsWithin, IsObjectWithin, IsKeyWithin};
 ghost use Rattle.am_opcols.specs.Rows.{op_of};
-ghost use Rattle.am_change.specs.Building.{hash_with, hashes_in, IsOpWithin};
+ghost use Rattle.am_change.specs.Building.{hash_with, hashes_in, front_of, change_with, IsOpWithin};
 
+use crate::front::FrontRef;
 use am_opcols::{OpCursor, OpRef, PredCursor};
 use am_types::{
-    ActorFault, ActorId, Bytes, Hash, IdRef, Key, KeyRef, List, ObjId, ObjRef, Op, OpId, RawValue,
-    SharedActors, Text, ValueRef,
+    ActorFault, ActorId, Bytes, Change, Hash, IdRef, Key, KeyRef, List, ObjId, ObjRef, Op, OpId,
+    RawValue, SharedActors, Text, ValueRef,
 };
 use std::alloc::{AllocError, Global};
 
 // The bytes, owned.
-pub fn bytes_in(alloc: Global, bytes: &[u8]) -> Result<Bytes, AllocError>
+fn bytes_in(alloc: Global, bytes: &[u8]) -> Result<Bytes, AllocError>
     ensures { IfOk result (λ copy. copy ≡ bytes.now) }
 {
     let mut copy = Bytes::new(alloc);
@@ -23,25 +24,12 @@ pub fn bytes_in(alloc: Global, bytes: &[u8]) -> Result<Bytes, AllocError>
 }
 
 // The text, owned.
-pub fn text_in(alloc: Global, text: &str) -> Result<Text, AllocError>
+fn text_in(alloc: Global, text: &str) -> Result<Text, AllocError>
     ensures { IfOk result (λ copy. copy ≡ text.now) }
 {
     let mut copy = Text::new(alloc);
     copy.push_str(text)?;
     Ok(copy)
-}
-
-// The actor, owned.
-pub fn actor_in(alloc: Global, bytes: &[u8]) -> Result<ActorId, AllocError>
-    requires some { 1 ≤ length bytes.now }
-    requires few { length bytes.now ≤ 1024 }
-    ensures { IfOk result (λ actor. actor ≡ bytes.now) }
-{
-    match ActorId::of(alloc, bytes) {
-        Ok(actor) => Ok(actor),
-        Err(ActorFault::NoMemory) => Err(AllocError),
-        Err(ActorFault::Length) => unreachable!(),
-    }
 }
 
 // The hash of these bytes.
@@ -55,7 +43,7 @@ pub fn hash_in(bytes: &[u8]) -> Hash
 }
 
 // The hashes that stand one after another, owned.
-pub fn hashes_of(alloc: Global, bytes: &[u8], count: u64) -> Result<List<Hash>, AllocError>
+fn hashes_of(alloc: Global, bytes: &[u8], count: u64) -> Result<List<Hash>, AllocError>
     requires { length bytes.now ≡ 32 * count }
     ensures { IfOk result (λ hashes. hashes ≡ hashes_in count bytes.now) }
 {
@@ -170,15 +158,46 @@ fn op_in(alloc: Global, actors: &mut SharedActors, op: OpRef<'_>) -> Result<Op, 
 }
 
 // The operations, owned.
-pub fn ops_in(alloc: Global, ops: OpCursor<'_>) -> Result<List<Op>, AllocError>
+fn ops_in(
+    alloc: Global,
+    actors: &mut SharedActors,
+    ops: OpCursor<'_>,
+) -> Result<List<Op>, AllocError>
     requires { AllByRecursion IsOpWithin ops }
     ensures { IfOk result (λ copy. copy ≡ ops.entry) }
 {
-    let mut actors = SharedActors::new(alloc);
-    let mut copy = List::new(alloc);
+    let mut copy = Vec::with_capacity(alloc, ops.left() as usize)?;
     let mut rest = ops;
     while let Some(op) = rest.next() {
-        copy.push(op_in(alloc, &mut actors, op)?)?;
+        copy.push(op_in(alloc, actors, op)?)?;
     }
-    Ok(copy)
+    Ok(List::from(copy))
+}
+
+// The change of these parts, owned. It needn't be fine.
+pub fn change_in(
+    alloc: Global,
+    front: &FrontRef<'_>,
+    message: &str,
+    ops: OpCursor<'_>,
+    extra: &[u8],
+) -> Result<Change, AllocError>
+    requires hashes { length front.now.hashes.now ≡ 32 * front.now.count }
+    requires message { message.now ≡ front.now.message.now }
+    requires some { 1 ≤ length front.now.actor.now }
+    requires few { length front.now.actor.now ≤ 1024 }
+    requires within { AllByRecursion IsOpWithin ops }
+    ensures { IfOk result (λ c. c ≡ change_with (front_of front.now) ops.entry extra.now) }
+{
+    let mut actors = SharedActors::new(alloc);
+    Ok(Change {
+        deps: hashes_of(alloc, front.hashes, front.count)?,
+        actor: shared_in(alloc, &mut actors, front.actor)?,
+        seq: front.seq,
+        start: front.start,
+        time: front.time,
+        message: text_in(alloc, message)?,
+        ops: ops_in(alloc, &mut actors, ops)?,
+        extra: bytes_in(alloc, extra)?,
+    })
 }

@@ -1,6 +1,5 @@
 //! Reading a change back from the contents of its chunk.
-ghost use Rattle.std.specs.Prelude.{◌≡◌, ◌<◌, ◌≤◌, ◌^◌, ◌*◌, ◌++◌, ◌∷◌, ◌⊎◌, ◌↔◌, length, IsTrue, IfOk, IfSome, IsSomeAnd};
-ghost use Rattle.std.specs.List.{AllByRecursion};
+ghost use Rattle.std.specs.Prelude.{◌≡◌, ◌<◌, ◌≤◌, ◌^◌, ◌*◌, ◌++◌, ◌∷◌, ◌⊎◌, ◌↔◌, length, IsTrue, IfSome, IsSomeAnd};
 ghost use Rattle.am_types.specs.declared.Change.{Change};
 ghost use Rattle.am_types.specs.Fine.{Fine};
 ghost use Rattle.am_colmeta.specs.Metadata.{listing, body, Ascend};
@@ -10,17 +9,17 @@ ghost use Rattle.am_opcols.specs.Others.{others as others_of};
 ghost use Rattle.am_opcols.specs.Writing.{written_columns};
 ghost use Rattle.am_change.specs.Contents.{contents};
 ghost use Rattle.am_change.specs.Fronts.{front as front_in};
-ghost use Rattle.am_change.specs.Building.{front_of, change_with, IsOpWithin};
+ghost use Rattle.am_change.specs.Building.{front_of};
 ghost use Rattle.am_change.specs.Judgement.{Judges};
 
-use crate::copying::{actor_in, bytes_in, hashes_of, ops_in, text_in};
+use crate::copying::change_in;
 use crate::fault::ChangeFault;
 use crate::fine::is_fine;
 use crate::front::FrontRef;
 use am_colmeta::Columns;
 use am_opcols::{OpColumns, OpCursor};
 use am_types::{Change, Op};
-use std::alloc::{AllocError, Global};
+use std::alloc::Global;
 use std::str::from_utf8;
 
 // The specifications of the columns that the operations of a change may have.
@@ -104,27 +103,6 @@ fn is_canonical_of(front: &FrontRef<'_>, behind: &Behind<'_>, ops: &[Op]) -> boo
     columns.are_canonical_of(front.actor, &front.others, ops)
 }
 
-// The change of these parts, owned. It needn't be fine.
-fn copied(alloc: Global, front: &FrontRef<'_>, behind: &Behind<'_>) -> Result<Change, AllocError>
-    requires hashes { length front.now.hashes.now ≡ 32 * front.now.count }
-    requires message { behind.now.message.now ≡ front.now.message.now }
-    requires some { 1 ≤ length front.now.actor.now }
-    requires few { length front.now.actor.now ≤ 1024 }
-    requires within { AllByRecursion IsOpWithin behind.now.ops }
-    ensures { IfOk result (λ c. c ≡ change_with (front_of front.now) behind.now.ops behind.now.extra.now) }
-{
-    Ok(Change {
-        deps: hashes_of(alloc, front.hashes, front.count)?,
-        actor: actor_in(alloc, front.actor)?,
-        seq: front.seq,
-        start: front.start,
-        time: front.time,
-        message: text_in(alloc, behind.message)?,
-        ops: ops_in(alloc, behind.ops.again())?,
-        extra: bytes_in(alloc, behind.extra)?,
-    })
-}
-
 // The change with these contents. It is copied before it is judged, so that its operations are read once.
 fn parsed(alloc: Global, bytes: &[u8]) -> Result<Change, ChangeFault>
     ensures { Judges bytes.now result }
@@ -139,7 +117,8 @@ fn parsed(alloc: Global, bytes: &[u8]) -> Result<Change, ChangeFault>
     let Some(behind) = opened(&front, rest) else {
         return Err(ChangeFault::BadChange);
     };
-    let Ok(change) = copied(alloc, &front, &behind) else {
+    let ops = behind.ops.again();
+    let Ok(change) = change_in(alloc, &front, behind.message, ops, behind.extra) else {
         return Err(ChangeFault::NoMemory);
     };
     if !is_fine(&change) {

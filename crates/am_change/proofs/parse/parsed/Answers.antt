@@ -1,11 +1,13 @@
-use Rattle.std.proofs.Common.{◌≡◌, ◌∷◌, refl, sym, subst, ap, ◌∙◌}
+use Rattle.std.proofs.Common.{◌≡◌, List, ◌∷◌, refl, sym, subst, ap, ◌∙◌}
+use Rattle.std.specs.List.{AllByRecursion}
+use Rattle.am_types.specs.declared.Op.{Op}
 use Rattle.am_types.specs.declared.Change.{Change}
 use Rattle.am_types.specs.Fine.{Fine}
 use Rattle.am_opcols.specs.Columns.{SpellsOps}
 use Rattle.am_opcols.specs.Others.{others}
 use Rattle.am_opcols.specs.Writing.{written_columns}
 use Rattle.am_change.specs.Contents.{contents}
-use Rattle.am_change.specs.Building.{front_of, change_with}
+use Rattle.am_change.specs.Building.{front_of, change_with, IsOpWithin}
 use Rattle.am_change.proofs.Parsing.{no_front, no_change, same_change, ops_within}
 use Rattle.am_change.proofs.InPlace.{own_contents, canonical_as}
 use Rattle.am_change.proofs.parse.parsed.Goals as goal
@@ -18,30 +20,32 @@ returns-in_default-opened c =
     no_change c.args.bytes.now (front_of c.in-Some.front) c.in-Some.rest.now c.length_known.ensures c.in-Some.ensures.some.0 c.in-Some.ensures.some.1 (λ h. absurd (cc (c.if-compressed.ensures.some.1 h)))
     (λ d fine s e r b. c.in_default-opened.ensures.only d fine s e r)
 
-pub copied-requires : goal.copied-requires
-copied-requires c =
+pub change_in-requires : goal.change_in-requires
+change_in-requires c =
     let behind = c.in-Some-opened.behind in
     record {
       hashes = c.in-Some.ensures.some.2;
       message = c.in-Some-opened.ensures.message;
       some = c.in-Some-opened.ensures.some;
       few = c.in-Some-opened.ensures.few;
-      within = ops_within behind.ops (c.in-Some-opened.ensures.spelled).within;
+      within = subst (AllByRecursion IsOpWithin) (sym c.again-ops.ensures) (ops_within behind.ops (c.in-Some-opened.ensures.spelled).within);
     }
 
 pub returns-then-not-is_fine : goal.returns-then-not-is_fine
 returns-then-not-is_fine c =
     let behind = c.in-Some-opened.behind in
+    let whole : c.in-Ok.change ≡ change_with (front_of c.in-Some.front) behind.ops behind.extra.now = c.in-Ok.ensures ∙ ap (λ (os : List Op). change_with (front_of c.in-Some.front) os behind.extra.now) c.again-ops.ensures in
     no_change c.args.bytes.now (front_of c.in-Some.front) c.in-Some.rest.now c.length_known.ensures c.in-Some.ensures.some.0 c.in-Some.ensures.some.1 (λ h. absurd (cc (c.if-compressed.ensures.some.1 h)))
     (λ d fine s e r b.
     let got = c.in-Some-opened.ensures.only d fine s e r in
-    let same : c.in-Ok.change ≡ d = c.in-Ok.ensures ∙ same_change (front_of c.in-Some.front) behind.ops behind.extra.now d e got.0 got.1 in
+    let same : c.in-Ok.change ≡ d = whole ∙ same_change (front_of c.in-Some.front) behind.ops behind.extra.now d e got.0 got.1 in
     absurd (cc (c.if-not-is_fine.ensures.1 (subst Fine (sym same) fine))))
 
 pub is_canonical_of-requires : goal.is_canonical_of-requires
 is_canonical_of-requires c =
     let behind = c.in-Some-opened.behind in
-    let same : c.as_slice.result.now ≡ behind.ops = c.as_slice.ensures ∙ ap (λ (x : Change). x.ops) c.in-Ok.ensures in
+    let whole : c.in-Ok.change ≡ change_with (front_of c.in-Some.front) behind.ops behind.extra.now = c.in-Ok.ensures ∙ ap (λ (os : List Op). change_with (front_of c.in-Some.front) os behind.extra.now) c.again-ops.ensures in
+    let same : c.as_slice.result.now ≡ behind.ops = c.as_slice.ensures ∙ ap (λ (x : Change). x.ops) whole in
     record {
       spelled = subst (SpellsOps ((front_of c.in-Some.front).actor ∷ (front_of c.in-Some.front).others) behind.columns) (sym same) c.in-Some-opened.ensures.spelled;
       ascend = c.in-Some-opened.ensures.ascend;
@@ -51,7 +55,8 @@ is_canonical_of-requires c =
 pub returns-then-not-is_canonical_of : goal.returns-then-not-is_canonical_of
 returns-then-not-is_canonical_of c =
     let behind = c.in-Some-opened.behind in
-    let own : c.as_slice.result.now ≡ behind.ops = c.as_slice.ensures ∙ ap (λ (x : Change). x.ops) c.in-Ok.ensures in
+    let whole : c.in-Ok.change ≡ change_with (front_of c.in-Some.front) behind.ops behind.extra.now = c.in-Ok.ensures ∙ ap (λ (os : List Op). change_with (front_of c.in-Some.front) os behind.extra.now) c.again-ops.ensures in
+    let own : c.as_slice.result.now ≡ behind.ops = c.as_slice.ensures ∙ ap (λ (x : Change). x.ops) whole in
     no_change c.args.bytes.now (front_of c.in-Some.front) c.in-Some.rest.now c.length_known.ensures c.in-Some.ensures.some.0 c.in-Some.ensures.some.1 (λ h. absurd (cc (c.if-compressed.ensures.some.1 h)))
     (λ d fine s e r b.
     let got = c.in-Some-opened.ensures.only d fine s e r in
@@ -60,9 +65,10 @@ returns-then-not-is_canonical_of c =
 pub returns : goal.returns
 returns c =
     let behind = c.in-Some-opened.behind in
+    let whole : c.in-Ok.change ≡ change_with (front_of c.in-Some.front) behind.ops behind.extra.now = c.in-Ok.ensures ∙ ap (λ (os : List Op). change_with (front_of c.in-Some.front) os behind.extra.now) c.again-ops.ensures in
     let f = front_of c.in-Some.front in
-    let own : c.as_slice.result.now ≡ behind.ops = c.as_slice.ensures ∙ ap (λ (x : Change). x.ops) c.in-Ok.ensures in
+    let own : c.as_slice.result.now ≡ behind.ops = c.as_slice.ensures ∙ ap (λ (x : Change). x.ops) whole in
     let canonical = c.if-not-is_canonical_of.ensures.0 refl in
     let told = own_contents c.args.bytes.now c.in-Some.rest.now f behind.columns behind.ops behind.extra.now c.in-Some.ensures.some.1 c.in-Some-opened.ensures.joined c.in-Some-opened.ensures.listed
     (canonical.0 ∙ ap (others f.actor) own) (canonical.1 ∙ ap (written_columns f.actor) own) in
-    (c.if-not-is_fine.ensures.0 refl, subst (λ (x : Change). c.args.bytes.now ≡ contents x) (sym c.in-Ok.ensures) told)
+    (c.if-not-is_fine.ensures.0 refl, subst (λ (x : Change). c.args.bytes.now ≡ contents x) (sym whole) told)

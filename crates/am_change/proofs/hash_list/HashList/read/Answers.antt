@@ -1,4 +1,4 @@
-use Rattle.std.proofs.Common.{◌≡◌, ◌<◌, ◌^◌, ◌++◌, ℕ, List, length, sym, subst}
+use Rattle.std.proofs.Common.{◌≡◌, ◌<◌, ◌^◌, ◌++◌, List, length, sym, subst}
 use Rattle.std.specs.List.{AllByRecursion}
 use Rattle.am_types.specs.declared.Hash.{Hash}
 use Rattle.am_change.specs.Contents.{hashes_bytes}
