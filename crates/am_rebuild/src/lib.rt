@@ -9,6 +9,7 @@ mod document;
 mod fault;
 mod gathered;
 mod group;
+mod ids;
 mod joining;
 mod judgement;
 mod lasts;

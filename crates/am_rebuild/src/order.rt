@@ -1,13 +1,14 @@
 //! Whether rows come in document order, in one pass.
-ghost use Rattle.std.specs.Prelude.{◌≡◌, IfOk, OnOk};
+ghost use Rattle.std.specs.Prelude.{◌≡◌, true, IfOk, OnOk};
 ghost use Rattle.am_types.specs.Views.{key_of};
 ghost use Rattle.am_histories.specs.Rebuilt.{slot_of};
-ghost use Rattle.am_histories.specs.RowOrder.{slot_may_come, may_open, may_come, may_come_in};
+ghost use Rattle.am_histories.specs.RowOrder.{slot_may_come, may_open, by_object, may_come, may_come_in};
 ghost use Rattle.am_histories.specs.OnePass.{moved, path_into, one_pass};
 ghost use Rattle.am_rebuild.specs.Stops.{path_of};
 
+use crate::ids::{compare, compare_objects, is_same_key};
 use crate::path::{StopRef, go_back, is_going, put, restart};
-use am_types::{Key, KeyRef, Row, compare_ids, compare_objects, same_key};
+use am_types::{Key, KeyRef, Row};
 use std::alloc::{AllocError, Global};
 use std::cmp::Ordering;
 
@@ -44,18 +45,19 @@ fn opens(row: &Row) -> bool
 fn follows_in(last: &Row, row: &Row) -> bool
     ensures { result ≡ may_come_in last.now row.now }
 {
-    if same_key(slot(last), slot(row)) {
-        compare_ids(last.id.lend(), row.id.lend()).is_lt()
+    let (before, behind) = (slot(last), slot(row));
+    if is_same_key(before, behind) {
+        compare(last.id.lend(), row.id.lend()).is_lt()
     } else {
-        slot_follows(slot(last), slot(row)) && opens(row)
+        slot_follows(before, behind) && opens(row)
     }
 }
 
-/// The row may come directly behind the last.
-fn follows(last: &Row, row: &Row) -> bool
-    ensures { result ≡ may_come last.now row.now }
+/// The row may come directly behind the last, whose object comes so to that of the row.
+fn follows(objects: Ordering, last: &Row, row: &Row) -> bool
+    ensures { result ≡ by_object objects last.now row.now }
 {
-    match compare_objects(last.obj.lend(), row.obj.lend()) {
+    match objects {
         Ordering::Less => opens(row),
         Ordering::Equal => follows_in(last, row),
         Ordering::Greater => false,
@@ -73,22 +75,20 @@ fn walk_on<'a>(stack: &mut Vec<StopRef<'a>>, row: &'a Row) -> Result<(), AllocEr
     Ok(())
 }
 
-/// The path before the row, in its object.
-fn turn_to(stack: &mut Vec<StopRef<'_>>, last: &Row, row: &Row) -> Result<(), AllocError>
-    ensures { OnOk result (path_of stack.new.items ≡ path_into last.now (path_of stack.old.items) row.now) }
+/// Takes the row behind the last, where it may come there, and the path on.
+fn take_row<'a>(stack: &mut Vec<StopRef<'a>>, last: &Row, row: &'a Row) -> Result<bool, AllocError>
+    ensures may { IfOk result (λ taken. taken ≡ may_come last.now row.now) }
+    ensures path { IfOk result (λ taken. taken ≡ true → path_of stack.new.items ≡ moved (path_into last.now (path_of stack.old.items) row.now) row.now) }
 {
-    if !compare_objects(last.obj.lend(), row.obj.lend()).is_eq() {
+    let objects = compare_objects(&last.obj, &row.obj);
+    if !follows(objects, last, row) {
+        return Ok(false);
+    }
+    if objects != Ordering::Equal {
         restart(stack)?;
     }
-    Ok(())
-}
-
-/// The row comes behind the last, and the path is taken on.
-fn take_row<'a>(stack: &mut Vec<StopRef<'a>>, last: &Row, row: &'a Row) -> Result<(), AllocError>
-    ensures { OnOk result (path_of stack.new.items ≡ moved (path_into last.now (path_of stack.old.items) row.now) row.now) }
-{
-    turn_to(stack, last, row)?;
-    walk_on(stack, row)
+    walk_on(stack, row)?;
+    Ok(true)
 }
 
 /// Whether the rows are in document order.
@@ -106,10 +106,9 @@ pub fn rows_in_order(alloc: Global, rows: &[Row]) -> Result<bool, AllocError>
     walk_on(&mut stack, first)?;
     let mut last = first;
     for row in rest {
-        if !is_going(&stack) || !follows(last, row) {
+        if !is_going(&stack) || !take_row(&mut stack, last, row)? {
             return Ok(false);
         }
-        take_row(&mut stack, last, row)?;
         last = row;
     }
     Ok(is_going(&stack))

@@ -4,7 +4,8 @@ ghost use Rattle.am_types.specs.Views.{id_of, key_of};
 ghost use Rattle.am_histories.specs.Walks.{back_to, front, is_on, may_follow, put_on};
 ghost use Rattle.am_rebuild.specs.Stops.{path_of};
 
-use am_types::{IdRef, KeyRef, compare_ids, same_key};
+use crate::ids::{compare, is_same_key};
+use am_types::{IdRef, KeyRef};
 use std::alloc::AllocError;
 
 /// A place on the path, and the element that came last behind it.
@@ -18,7 +19,7 @@ fn is_open(last: Option<IdRef<'_>>, id: IdRef<'_>) -> bool
     ensures { result ≡ may_follow (option_map id_of last.entry) (id_of id.entry) }
 {
     match last {
-        Some(last) => compare_ids(id, last).is_lt(),
+        Some(last) => compare(id, last).is_lt(),
         None => true,
     }
 }
@@ -30,7 +31,7 @@ fn depth_of(stack: &[StopRef<'_>], key: KeyRef<'_>) -> usize
 {
     let mut depth = stack.len();
     while depth > 0 {
-        if same_key(stack[depth - 1].at, key) {
+        if is_same_key(stack[depth - 1].at, key) {
             return depth;
         }
         depth -= 1;
