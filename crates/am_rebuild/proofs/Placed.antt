@@ -1,21 +1,22 @@
 -- Mentions in the order of the places of their actors are in the order of the actors.
-use Rattle.std.proofs.Common.{ℕ, get_or, ◌≡◌, ◌+◌, ◌<◌, List, [], ◌∷◌, ◌++◌, length, map, flat_map, filter, Bool, true, false, refl, sym, ap, ◌∙◌, subst, inl, inr, arith, All, Contains, IsPermutation, IsTrue, not, ◌&&◌}
+use Rattle.std.proofs.Common.{ℕ, get_or, ◌≡◌, ◌+◌, ◌<◌, List, [], ◌∷◌, ◌++◌, length, map, flat_map, filter, Bool, true, false, refl, sym, ap, ◌∙◌, subst, inl, inr, arith, All, Contains, IsPermutation, IsTrue, not, ◌&&◌, nat_le}
 use Rattle.std.specs.Cmp.{IsTotalOrder}
 use Rattle.std.specs.List.Sorted.{IsSorted, IsStable, IsStrictlySortedBy, IsPartitionPoint, IsPartitionedBy, ties}
-use Rattle.std.specs.Ordering.{nat_cmp, is_lt, ordering_then, ordering_reverse}
+use Rattle.std.specs.Ordering.{nat_cmp, is_lt, is_gt, ordering_then, ordering_reverse}
 use Rattle.std.specs.declared.cmp.Ordering.{Ordering}
 use Rattle.std.specs.declared.cmp.Ordering.TheVariants.{Less, Equal, Greater}
 use Rattle.std.proofs.lemmas.Bool.{cases_Bool, cases_order, both_ways, lt-ltb, false_from_ne_true}
 use Rattle.std.proofs.lemmas.Cmp.{tied_itself, nat_list_cmp_total, nat_cmp_total, then_total, on_total}
 use Rattle.std.specs.Borrow.{Bor}
 use Rattle.std.proofs.lemmas.List.{get_or-map, get_or_default, length-map}
-use Rattle.std.proofs.lemmas.List.Elements.{All-contains, All-push, Contains-append_right}
+use Rattle.std.proofs.lemmas.List.Elements.{All-contains, All-contains_itself, All-push, Contains-append_left, Contains-append_right}
 use Rattle.std.proofs.lemmas.List.Sorted.{IsPermutation-sym, Contains-permutation, All-permutation}
 use Rattle.std.proofs.lemmas.Map.Keys.{Less-from_sorted, sorted_from_all_adjacent}
 use Rattle.std.proofs.lemmas.Map.Lookups.{exact_bytes}
 use Rattle.std.proofs.lemmas.Map.Views.{tells_apart}
 use Rattle.am_types.specs.declared.OpId.{OpId}
 use Rattle.am_types.specs.declared.Row.{Row}
+use Rattle.am_types.specs.declared.Meta.{Meta}
 use Rattle.am_types.specs.declared.Table.{Table}
 use Rattle.am_types.specs.Order.{bytes_cmp, same, among, Ascends}
 use Rattle.am_types.specs.Same.{same_bytes}
@@ -25,13 +26,16 @@ use Rattle.am_types.proofs.Orders.{same_bytes-true, same_id-true}
 use Rattle.am_laws.proofs.Ancestry.{Contains-filter, Contains-from_filter}
 use Rattle.am_histories.specs.Laws.{row_actors, table_actors}
 use Rattle.am_histories.proofs.Sorted.{Contains-here, Contains-there, Contains-none}
-use Rattle.am_histories.proofs.Contained.{Contains-from_map, Contains-flat_map, Contains-from_flat_map}
+use Rattle.am_histories.proofs.Contained.{Contains-map, Contains-from_map, Contains-flat_map, Contains-from_flat_map}
 use Rattle.am_histories.proofs.Tests.{any_has}
 use Rattle.am_rebuild.specs.declared.mention.Named.{Named}
-use Rattle.am_rebuild.specs.Mentions.{by_author, by_place, author_cmp, IsPlaced}
+use Rattle.am_rebuild.specs.Mentions.{by_author, by_place, author_cmp, spot_of, spot_cmp, IsPlaced, ArePlaced}
 use Rattle.am_rebuild.specs.Names.{names_of, mentioned_actors, IsPlaceOf, AreNames}
 use Rattle.am_rebuild.proofs.Walked.{filter_none}
 use Rattle.am_rebuild.proofs.Whole.{ties_are}
+
+pub spot_total : IsTotalOrder spot_cmp
+spot_total = then_total (on_total (λ (p : ℕ × ℕ). p.0) nat_cmp_total) (on_total (λ (p : ℕ × ℕ). p.1) nat_cmp_total)
 
 pub place_total : IsTotalOrder by_place
 place_total = then_total (on_total (λ (n : Named). n.place) nat_cmp_total) (on_total (λ (n : Named). n.id.counter) nat_cmp_total)
@@ -66,6 +70,11 @@ module _ (names : List (List ℕ)) (up : IsStrictlySortedBy bytes_cmp names) whe
       ap (λ o. ordering_then o (nat_cmp a.id.counter b.id.counter))
       ((λ i. bytes_cmp (sym (p.1 []) i) (sym (q.1 []) i)) ∙ places_tell a.place b.place [] p.0 q.0)
 
+  bound_is : (n : Named) (actor : List ℕ) (i counter : ℕ) → IsPlaced names n → IsPlaceOf names actor i → author_cmp (id_of n.id) (record { counter = counter; actor = actor }) ≡ spot_cmp (spot_of n) (i, counter)
+  bound_is n actor i counter p q =
+      ap (λ o. ordering_then o (nat_cmp n.id.counter counter))
+      ((λ j. bytes_cmp (sym (p.1 []) j) (sym (q.1 []) j)) ∙ places_tell n.place i [] p.0 q.0)
+
   pub sorted_from : (all : List Named) → All (IsPlaced names) all → IsSorted by_place all → IsSorted by_author all
   sorted_from all p s k d z h = ap is_lt (by_place_is (get_or all (k + 1) d) (get_or all k d) (p (k + 1) d h) (p k d (omega arith))) ∙ s k d z h
 
@@ -91,6 +100,12 @@ module _ (names : List (List ℕ)) (up : IsStrictlySortedBy bytes_cmp names) whe
           let same_one : id_of x.id ≡ id_of y.id = same_id-true (id_of x.id) (id_of y.id) (sym (ties_are (id_of x.id) (id_of y.id)) ∙ f.1) in
           let q = All-contains (IsPlaced names) old y p f.0 in
           alike x y q same_one new (All-permutation (IsPlaced names) old new moved p) ∙ s y ∙ sym (alike x y q same_one old p)
+
+-- what is above an actor's counter, by the place of the actor
+pub above_bound : (names : List (List ℕ)) (all : List Named) → ArePlaced names all → (actor : List ℕ) (i : ℕ) → IsPlaceOf names actor i → (counter r : ℕ)
+    → ((k : ℕ) (d : Named) → k < length all → is_gt (spot_cmp (spot_of (get_or all k d)) (i, counter)) ≡ nat_le r k)
+    → (k : ℕ) (d : Named) → k < length all → is_gt (author_cmp (id_of (get_or all k d).id) (record { counter = counter; actor = actor })) ≡ nat_le r k
+above_bound names all a actor i q counter r f k d l = ap is_gt (bound_is names a.ascend (get_or all k d) actor i counter (a.placed k d l) q) ∙ f k d l
 
 is_less : (o : Ordering) → is_lt o ≡ true → o ≡ Less
 is_less Less e = refl
@@ -163,3 +178,12 @@ table_names t ascend known = record {
       let found = any_has (same bytes_cmp a) t.actors (All-contains (λ b. IsTrue (among bytes_cmp t.actors b)) (table_actors t) a known in_table) in
       subst (Contains t.actors) (sym (tells_apart exact_bytes a found.0 found.2)) found.1;
 }
+
+pub author_names : (t : Table) → All (λ a. IsTrue (among bytes_cmp t.actors a)) (table_actors t) → All (λ m. Contains t.actors m.actor) t.metas
+author_names t known k d l = named (get_or t.metas k d) (All-contains_itself t.metas k d l)
+  where
+    named : (m : Meta) → Contains t.metas m → Contains t.actors m.actor
+    named m c =
+        let in_table = Contains-append_left (map (λ (m : Meta). m.actor) t.metas) (flat_map row_actors t.rows) m.actor (Contains-map (λ (m : Meta). m.actor) t.metas m c) in
+        let found = any_has (same bytes_cmp m.actor) t.actors (All-contains (λ b. IsTrue (among bytes_cmp t.actors b)) (table_actors t) m.actor known in_table) in
+        subst (Contains t.actors) (sym (tells_apart exact_bytes m.actor found.0 found.2)) found.1

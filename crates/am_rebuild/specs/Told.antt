@@ -7,7 +7,8 @@
 --     differ_from last is      no id of the ascending list is that before it, nor the first the last
 --     TellsRest rows n         the rows have or name n ids, are each one operation's that isn't a deletion, with ascending
 --                              succs, and are in order
-use Rattle.std.specs.Prelude.{ℕ, ◌+◌, ◌-◌, ◌==◌, ◌≡◌, ◌≢◌, ◌&&◌, Bool, true, false, not, List, [], ◌∷◌, length, map, filter, All, AllPairs, Option, Some, None, MatchOption, if◌then◌else◌}
+--     TellsIds rows told       told is the number for which this is so, or None, where it is so for none
+use Rattle.std.specs.Prelude.{ℕ, ◌+◌, ◌-◌, ◌==◌, ◌≡◌, ◌≢◌, ◌↔◌, ◌&&◌, Bool, true, false, not, List, [], ◌∷◌, length, map, filter, All, AllPairs, Option, Some, None, MatchOption, if◌then◌else◌}
 use Rattle.am_types.specs.Actions as actions
 use Rattle.am_types.specs.declared.OpId.{OpId}
 use Rattle.am_types.specs.declared.Op.{Op}
@@ -49,3 +50,6 @@ pub record TellsRest (rows : List Row) (n : ℕ) : Type 0 where
   pub kept : All (λ r. r.action ≢ actions.del) rows
   pub succs : All (λ r. Ascends id_cmp r.succs) rows
   pub in_order : RowsInOrder rows
+
+abbrev pub TellsIds : List Row → Option ℕ → Type 0
+TellsIds rows told = MatchOption told ((n : ℕ) → TellsRest rows n → ⊥) (λ ids. (n : ℕ) → (ids ≡ n) ↔ TellsRest rows n)

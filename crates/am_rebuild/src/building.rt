@@ -1,30 +1,27 @@
 //! Changes from change rows, one after the other.
 ghost use Rattle.am_types.specs.declared.Table.{Table};
 ghost use Rattle.am_types.specs.declared.Row.{Row};
-ghost use Rattle.am_histories.specs.Rebuilt.{change_at};
-ghost use Rattle.am_rebuild.specs.Mentions.{by_author, AreSortedMentions};
-ghost use Rattle.std.specs.List.Sorted.{IsSorted};
-ghost use Rattle.am_rebuild.specs.Joined.{TakesNext, BuildsGapless};
-ghost use Rattle.std.specs.Prelude.{◌≡◌, [], ◌-◌, ◌^◌, ◌<◌, List, All, IfOk};
+ghost use Rattle.am_types.specs.declared.Meta.{Meta as AMeta};
+ghost use Rattle.am_rebuild.specs.Mentions.{ArePlaced, AreSortedMentions};
+ghost use Rattle.am_rebuild.specs.Names.{names_of};
+ghost use Rattle.am_rebuild.specs.Joined.{BuildsOne, TakesNext, BuildsGapless};
+ghost use Rattle.std.specs.Prelude.{◌≡◌, [], ◌^◌, ◌<◌, List, All, Contains, IfOk};
 
 use crate::change::change_at;
 use crate::joining::Joining;
 use crate::mention::Named;
-use am_types::Meta;
+use am_types::{Change, Meta};
 use std::alloc::{AllocError, Global};
 
-/// Takes in the change of a meta, where it joins.
+/// Takes in what was built of a meta, where it is a change that joins.
 fn join_next<J: Joining>(
     alloc: Global,
     joining: &mut J,
-    all: &[Named<'_>],
-    meta: &Meta,
+    change: Option<Change>,
 ) -> Result<bool, AllocError>
-    requires sorted { IsSorted by_author all.now }
-    requires max { meta.now.max < 2 ^ 53 }
-    ensures { IfOk result (λ joined. (rows : List Row) → AreSortedMentions rows all.now → TakesNext J.hash_of rows (J.members joining.old) meta.now (J.members joining.new) joined) }
+    ensures { IfOk result (λ joined. (rows : List Row) (meta : AMeta) → BuildsOne rows (J.members joining.old) meta change → TakesNext J.hash_of rows (J.members joining.old) meta (J.members joining.new) joined) }
 {
-    match change_at(alloc, joining, all, meta)? {
+    match change {
         None => Ok(false),
         Some(change) => {
             let joined = joining.join(alloc, change)?;
@@ -33,20 +30,28 @@ fn join_next<J: Joining>(
     }
 }
 
-/// Builds the changes of the metas from all mentions in the rows, until one doesn't join, or a counter is missing.
+/// Builds the changes of the metas from all mentions in the rows, until one doesn't join, or a counter is missing. The mentions
+/// are let go before the last change joins.
 pub(crate) fn build_from<J: Joining>(
     alloc: Global,
     joining: &mut J,
-    all: &[Named<'_>],
+    names: &[&[u8]],
+    all: Vec<Named<'_>>,
     metas: &[Meta],
 ) -> Result<bool, AllocError>
     requires empty { J.members joining.old ≡ [] }
-    requires sorted { IsSorted by_author all.now }
+    requires placed { ArePlaced (names_of names.now) all.items }
+    requires named { All (λ m. Contains (names_of names.now) m.actor) metas.now }
     requires maxes { All (λ m. m.max < 2 ^ 53) metas.now }
-    ensures { IfOk result (λ built. (t : Table) → AreSortedMentions t.rows all.now → t.metas ≡ metas.now → BuildsGapless J.hash_of t (J.members joining.new) built) }
+    ensures { IfOk result (λ built. (t : Table) → AreSortedMentions t.rows all.entry.items → t.metas ≡ metas.now → BuildsGapless J.hash_of t (J.members joining.new) built) }
 {
-    for meta in metas {
-        let joined = join_next(alloc, joining, all, meta)?;
+    let mut left = all;
+    for (i, meta) in metas.iter().enumerate() {
+        let change = change_at(alloc, joining, names, &left, meta)?;
+        if i + 1 == metas.len() {
+            left = Vec::new(alloc);
+        }
+        let joined = join_next(alloc, joining, change)?;
         if !joined {
             return Ok(false);
         }

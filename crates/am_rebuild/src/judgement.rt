@@ -6,8 +6,9 @@ ghost use Rattle.am_rebuild.specs.Judged.{first_apart, IsJudged};
 
 use crate::building::build_from;
 use crate::joining::Joining;
-use crate::mention::mentions_in;
-use crate::telling::tell_all;
+use crate::mention::sorted_mentions;
+use crate::names::names_in;
+use crate::telling::{ids_told, is_told};
 use am_types::{ActorId, Hash, Table};
 use std::alloc::{AllocError, Global};
 use std::cmp::Ordering;
@@ -74,15 +75,19 @@ pub fn judge<J: Joining>(
     requires actors { All (λ a. IsTrue (among bytes_cmp table.now.actors a)) (table_actors table.now) }
     ensures { IfOk result (IsJudged J.hash_of table.now (J.members joining.new)) }
 {
-    if !actors_ascend(table.actors.as_slice()) {
+    let actors = table.actors.as_slice();
+    if !actors_ascend(actors) {
         return Ok(Judgement::NoHistory);
     }
     let rows = table.rows.as_slice();
-    let all = mentions_in(alloc, table)?;
-    if !build_from(alloc, joining, &all, table.metas.as_slice())? {
+    let metas = table.metas.as_slice();
+    let names = names_in(alloc, actors)?;
+    let all = sorted_mentions(alloc, &names, rows)?;
+    let told = ids_told(alloc, rows, &all)?;
+    if !build_from(alloc, joining, &names, all, metas)? {
         return Ok(Judgement::NoHistory);
     }
-    if !tell_all(alloc, rows, &all, joining.operation_count())? {
+    if !is_told(told, joining.operation_count()) {
         return Ok(Judgement::NoHistory);
     }
     let heads = joining.heads(alloc)?;

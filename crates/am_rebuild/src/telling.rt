@@ -1,10 +1,11 @@
 //! Whether rows tell just the operations that were rebuilt from them, and stand in order.
 ghost use Rattle.std.specs.Prelude.{◌≡◌, ◌≢◌, ◌↔◌, List, All, AllPairs, IsTrue, IfOk, None, map, filter, option_map};
+ghost use Rattle.am_types.specs.declared.Row.{Row};
 ghost use Rattle.am_types.specs.Actions as actions;
 ghost use Rattle.am_types.specs.Order.{id_cmp, Ascends};
 ghost use Rattle.am_types.specs.Views.{id_of};
 ghost use Rattle.am_rebuild.specs.Mentions.{AreSortedMentions};
-ghost use Rattle.am_rebuild.specs.Told.{is_last, ids_behind, differ_from, TellsRest};
+ghost use Rattle.am_rebuild.specs.Told.{is_last, ids_behind, differ_from, TellsIds, TellsRest};
 
 use crate::group::DELETION;
 use crate::ids::{compare, is_same};
@@ -79,20 +80,33 @@ fn are_kept(rows: &[Row]) -> bool
     rows.iter().all(|row| is_kept(row))
 }
 
-/// Whether the rows, in which all is mentioned, have or name so many ids, each is the only one of an operation that isn't a
+/// How many ids the rows, in which all is mentioned, have or name, where each row is the only one of an operation that isn't a
 /// deletion, with succs that ascend, and they are in document order.
-pub(crate) fn tell_all(
+pub(crate) fn ids_told(
     alloc: Global,
     rows: &[Row],
     all: &[Named<'_>],
-    count: u64,
-) -> Result<bool, AllocError>
+) -> Result<Option<u64>, AllocError>
     requires { AreSortedMentions rows.now all.now }
-    ensures { IfOk result (λ told. IsTrue told ↔ TellsRest rows.now count) }
+    ensures { IfOk result (λ told. TellsIds rows.now told) }
 {
-    if count_ids(all) as u64 != count || !own_ids_differ(all) || !are_kept(rows) {
-        return Ok(false);
+    if !own_ids_differ(all) || !are_kept(rows) {
+        return Ok(None);
     }
     let told = rows_in_order(alloc, rows)?;
-    Ok(told)
+    if told {
+        Ok(Some(count_ids(all) as u64))
+    } else {
+        Ok(None)
+    }
+}
+
+/// Whether as many ids were told.
+pub(crate) fn is_told(told: Option<u64>, count: u64) -> bool
+    ensures { (rows : List Row) → TellsIds rows told → IsTrue result ↔ TellsRest rows count }
+{
+    match told {
+        None => false,
+        Some(ids) => ids == count,
+    }
 }
