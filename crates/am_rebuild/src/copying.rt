@@ -118,12 +118,17 @@ fn succs_in(
     requires { AllByRecursion IsWithin succs }
     ensures { IfOk result (λ copy. copy ≡ succs.entry) }
 {
-    let mut copy = List::new(alloc);
     let mut rest = succs;
+    let Some(first) = rest.next() else {
+        return Ok(List::new(alloc));
+    };
+    // Most rows that have successors have one.
+    let mut copy = Vec::with_capacity(alloc, 1)?;
+    copy.push(id_in(alloc, known, first)?)?;
     while let Some(id) = rest.next() {
         copy.push(id_in(alloc, known, id)?)?;
     }
-    Ok(copy)
+    Ok(List::from(copy))
 }
 
 fn deps_in(alloc: Global, deps: IndexCursor<'_>) -> Result<List<u64>, AllocError>
@@ -175,12 +180,12 @@ pub(crate) fn rows_in(alloc: Global, rows: RowCursor<'_>) -> Result<List<Row>, A
     ensures { IfOk result (λ copy. copy ≡ rows.entry) }
 {
     let mut known = SharedActors::new(alloc);
-    let mut copy = List::new(alloc);
+    let mut copy = Vec::with_capacity(alloc, rows.left() as usize)?;
     let mut rest = rows;
     while let Some(row) = rest.next() {
         copy.push(row_in(alloc, &mut known, row)?)?;
     }
-    Ok(copy)
+    Ok(List::from(copy))
 }
 
 /// The change rows, owned.
