@@ -13,7 +13,6 @@ use Rattle.am_json.proofs.ByRuns.{shows_string, shows_array, shows_object}
 use Rattle.am_json.proofs.Levels.{object_zero}
 use Rattle.am_json.proofs.Sent.{items_len-map, sends_name}
 use Rattle.am_json.proofs.send.+send.Goals as goal
-use Rattle.am_json.proofs.send.+send.Goals.{send_map-in-Name+in_ok-key+in_ok-send_slot, send_map-in_default-slot}
 
 pub send_object-returns-then-levels-eq0 : goal.send_object-returns-then-levels-eq0
 send_object-returns-then-levels-eq0 g t c =
@@ -80,34 +79,39 @@ send_array-returns g t c =
     let end = g.S.Serializer.written c.end_seq.new.self in
     let len = c.slot_count.ensures ∙ sym (items_len-map f (runs c.args.own.now)) in
     let begun = subst (λ n. Logs (g.S.Serializer.written c.args.out.now) first (seq_begins (Some n))) len c.in_ok-begin_seq.ensures in
-    let none : runs c.loop-cut.left.now ≡ [] = search rules in
+    let none : c.loop-group.slots ≡ [] = search rules in
     on_ok_weaker c.end_seq.result (λ e. (
       first,
       begun,
-      c.loop-cut.invariant end (subst (λ ss. SendsItems (items_of (map f ss)) (g.S.Serializer.written c.loop-cut.out) end) (sym none) e),
+      c.loop-group.invariant end (subst (λ ss. SendsItems (items_of (map f ss)) (g.S.Serializer.written c.loop-group.out) end) (sym none) e),
     )) c.end_seq.ensures
 
-pub send_map-loop-cut-preserved : goal.send_map-loop-cut-preserved
-send_map-loop-cut-preserved g t c =
+-- a slot with a name is a member
+pub send_map-loop-group-preserved-in-Continue-branch-3 : goal.send_map-loop-group-preserved-in-Continue-branch-3
+send_map-loop-group-preserved-in-Continue-branch-3 g t c =
     let f = slot_data c.args.form (shown_by (inside c.args.form c.args.levels c.args.entries.now)) in
-    let key = c.in-Some.cut.group.winner.now.slot in
-    let d = f (slot_of c.in-Some.cut.group) in
-    let ms = named f (runs c.in-Some.cut.rest.now) in
-    λ end h. c.loop-cut.invariant end (subst (λ ss. SendsMembers (named f ss) (g.S.Serializer.written c.loop-cut.out) end) (sym c.in-Some.ensures.slot)
-    (elim c.match-slot.branch [
-      | send_map-in-Name+in_ok-key+in_ok-send_slot w ↦
-          let is : c.in-Some.cut.group.winner.now.slot ≡ Name w.in-Name.name.now = search rules in
-          sends_name key w.in-Name.name.now d ms (g.S.Serializer.written c.loop-cut.out) end is (
-            g.S.Serializer.written w.key.new.self,
-            g.S.Serializer.written w.send_slot.new.out,
-            w.in_ok-key.ensures,
-            w.in_ok-send_slot.ensures,
-            subst (λ o. SendsMembers ms (g.S.Serializer.written o) end) w.out-is h,
-          )
-      | send_map-in_default-slot w ↦
-          let none : member_at c.in-Some.cut.group.winner.now.slot d ms ≡ ms = search rules in
-          subst (λ ns. SendsMembers ns (g.S.Serializer.written c.loop-cut.out) end) (sym none) (subst (λ o. SendsMembers ms (g.S.Serializer.written o) end) w.out-is h)
-    ]))
+    let key = c.in-Some.group.winner.now.slot in
+    let d = f (slot_of c.in-Some.group) in
+    let ms = named f c.next.new.self in
+    let is : c.in-Some.group.winner.now.slot ≡ Name c.in-Name.name.now = search rules in
+    λ end h. c.loop-group.invariant end (subst (λ ss. SendsMembers (named f ss) (g.S.Serializer.written c.loop-group.out) end) (sym c.in-Some.ensures.next)
+    (sends_name key c.in-Name.name.now d ms (g.S.Serializer.written c.loop-group.out) end is (
+      g.S.Serializer.written c.key.new.self,
+      g.S.Serializer.written c.send_slot.new.out,
+      c.in_ok-key.ensures,
+      c.in_ok-send_slot.ensures,
+      h,
+    )))
+
+-- another shows nothing
+pub send_map-loop-group-preserved : goal.send_map-loop-group-preserved
+send_map-loop-group-preserved g t c =
+    let f = slot_data c.args.form (shown_by (inside c.args.form c.args.levels c.args.entries.now)) in
+    let d = f (slot_of c.in-Some.group) in
+    let ms = named f c.next.new.self in
+    let none : member_at c.in-Some.group.winner.now.slot d ms ≡ ms = search rules in
+    λ end h. c.loop-group.invariant end (subst (λ ss. SendsMembers (named f ss) (g.S.Serializer.written c.loop-group.out) end) (sym c.in-Some.ensures.next)
+    (subst (λ ns. SendsMembers ns (g.S.Serializer.written c.loop-group.out) end) (sym none) h))
 
 pub send_map-returns : goal.send_map-returns
 send_map-returns g t c =
@@ -115,9 +119,9 @@ send_map-returns g t c =
     let first = g.S.Serializer.written c.begin_map.new.self in
     let end = g.S.Serializer.written c.end_map.new.self in
     let begun = subst (λ n. Logs (g.S.Serializer.written c.args.out.now) first (map_begins (Some n))) (c.name_count.ensures f) c.in_ok-begin_map.ensures in
-    let none : runs c.loop-cut.left.now ≡ [] = search rules in
+    let none : c.loop-group.slots ≡ [] = search rules in
     on_ok_weaker c.end_map.result (λ e. (
       first,
       begun,
-      c.loop-cut.invariant end (subst (λ ss. SendsMembers (named f ss) (g.S.Serializer.written c.loop-cut.out) end) (sym none) e),
+      c.loop-group.invariant end (subst (λ ss. SendsMembers (named f ss) (g.S.Serializer.written c.loop-group.out) end) (sym none) e),
     )) c.end_map.ensures
