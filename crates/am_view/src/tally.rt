@@ -97,15 +97,19 @@ fn left_of<'a>(clock: &Clock, row: &RowRef<'a>, rest: &RowCursor<'a>) -> Option<
     }
 }
 
-/// The entry of a row, where the rest of the rows stands behind it; None where it isn't shown.
+/// The entry of a row, where the rest of the rows stands behind it; None where it isn't shown. Most rows that aren't shown
+/// were removed, so that is asked first.
 pub fn entry_of<'a>(clock: &Clock, row: &RowRef<'a>, rest: &RowCursor<'a>) -> Option<EntryRef<'a>>
     requires few { length row.now.succs ≤ 2 ^ 22 }
     ensures { option_map entry_of result ≡ option_map (entry_at (row_of row.now)) (standing (covers clock.now) (row_of row.now) rest.now) }
 {
-    if !clock.covers(row.id) || !gives_entry(row) {
+    if !gives_entry(row) {
         return None;
     }
     let total = left_of(clock, row, rest)?;
+    if !clock.covers(row.id) {
+        return None;
+    }
     Some(EntryRef {
         obj: row.obj,
         slot: slot_of(row.insert, row.key, row.id),
