@@ -45,3 +45,5 @@ pub mod Stopping
 pub mod Unnamed
 pub mod Carried
 pub mod RowsText
+pub mod Fronts
+pub mod Bytes

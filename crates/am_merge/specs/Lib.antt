@@ -14,3 +14,4 @@ pub mod ChangeRows
 pub mod Laws
 pub mod Grown
 pub mod Growing
+pub mod Fronts

@@ -1,15 +1,15 @@
 //! The operations of added changes, and what the walk over rows takes of them.
 ghost use Rattle.std.specs.Prelude.{◌≡◌, ◌∷◌, ◌++◌, [], All, IfOk, OnOk, filter, map, reverse};
-ghost use Rattle.am_types.specs.Order.{sorted_by};
 ghost use Rattle.am_types.specs.Operations.{operations, all_operations, ascending};
 ghost use Rattle.am_places.specs.Numbered.{operation_of, by_id};
 ghost use Rattle.am_places.specs.Sound.{HasRoom};
-ghost use Rattle.am_merge.specs.Walk.{beginning, by_spot, starts};
+ghost use Rattle.am_merge.specs.Walk.{beginning, starts};
 ghost use Rattle.am_merge.specs.Stacks.{stacked};
 
-use crate::spot::{compare_spots, spot};
+use crate::compare::compare_ids;
+use crate::starts::{Start, sort_starts};
 use am_places::Numbered;
-use am_types::{Change, Key, compare_ids};
+use am_types::{Change, Key};
 use std::alloc::{AllocError, Global};
 use std::cmp::Ordering;
 
@@ -94,19 +94,19 @@ fn starts(x: &Numbered<'_>) -> bool
 }
 
 // If it starts.
-fn push_start<'a>(all: &mut Vec<Numbered<'a>>, x: Numbered<'a>) -> Result<(), AllocError>
-    ensures { OnOk result (map operation_of all.new.items ≡ map operation_of all.old.items ++ filter starts (operation_of x.entry ∷ [])) }
+fn push_start<'a>(all: &mut Vec<Start<'a>>, x: Numbered<'a>) -> Result<(), AllocError>
+    ensures { OnOk result (all.new.items ≡ all.old.items ++ filter starts (operation_of x.entry ∷ [])) }
 {
     if starts(&x) {
-        all.push(x)?;
+        all.push(Start::of(x))?;
         return Ok(());
     }
     Ok(())
 }
 
 // Those that start.
-fn starting<'a>(alloc: Global, operations: &[Numbered<'a>]) -> Result<Vec<Numbered<'a>>, AllocError>
-    ensures { IfOk result (λ all. map operation_of all.items ≡ filter starts (map operation_of operations.now)) }
+fn starting<'a>(alloc: Global, operations: &[Numbered<'a>]) -> Result<Vec<Start<'a>>, AllocError>
+    ensures { IfOk result (λ all. all.items ≡ filter starts (map operation_of operations.now)) }
 {
     let mut all = Vec::new(alloc);
     for i in 0..operations.len() {
@@ -115,16 +115,15 @@ fn starting<'a>(alloc: Global, operations: &[Numbered<'a>]) -> Result<Vec<Number
     Ok(all)
 }
 
-// In the order of the walk.
-fn sort_spots(all: &mut Vec<Numbered<'_>>) -> Result<(), AllocError>
-    ensures { OnOk result (map operation_of all.new.items ≡ sorted_by by_spot (map operation_of all.old.items)) }
+// The operations themselves.
+fn operations_in<'a>(alloc: Global, starts: &[Start<'a>]) -> Result<Vec<Numbered<'a>>, AllocError>
+    ensures { IfOk result (λ all. map operation_of all.items ≡ starts.now) }
 {
-    all.sort_by(
-        |a: &Numbered<'_>, b: &Numbered<'_>| -> Ordering
-            ensures { result ≡ by_spot (operation_of a.now) (operation_of b.now) }
-        { compare_spots(&spot(a), &spot(b)) },
-    )?;
-    Ok(())
+    let mut all = Vec::new(alloc);
+    for i in 0..starts.len() {
+        all.push(starts[i].operation())?;
+    }
+    Ok(all)
 }
 
 /// What waits when the walk begins.
@@ -134,8 +133,9 @@ pub fn beginning<'a>(
 ) -> Result<Vec<Numbered<'a>>, AllocError>
     ensures { IfOk result (λ all. stacked all.items ≡ beginning (map operation_of operations.now)) }
 {
-    let mut all = starting(alloc, operations)?;
-    sort_spots(&mut all)?;
+    let mut starts = starting(alloc, operations)?;
+    sort_starts(&mut starts)?;
+    let mut all = operations_in(alloc, starts.as_slice())?;
     all.reverse();
     Ok(all)
 }

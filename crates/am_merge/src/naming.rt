@@ -10,8 +10,10 @@ ghost use Rattle.am_merge.specs.Naming.{IsSeam, Named, is_named, key_cmp, named_
 ghost use Rattle.am_merge.specs.Walk.{gives_value, hanging, inserts};
 ghost use Rattle.am_merge.specs.declared.naming.Naming.{Naming as ANaming};
 
+use crate::compare::{compare_actors, compare_objects};
+use crate::guide::Guide;
 use am_places::Numbered;
-use am_types::{IdRef, Key, ObjRef, compare_objects};
+use am_types::{IdRef, Key, ObjRef};
 use std::alloc::{AllocError, Global};
 use std::cmp::Ordering;
 
@@ -23,12 +25,17 @@ pub struct Naming<'a> {
     pub operation: Numbered<'a>,
 }
 
-/// Added operations by their predecessors, and those that name elements by these.
+/// Added operations by their predecessors, and those that name elements by these; and where to look for what.
 #[derive(Drop)]
 pub struct Tables<'a> {
     pub named: Vec<Naming<'a>>,
     pub hanging: Vec<Naming<'a>>,
+    pub named_guide: Guide,
+    pub hanging_guide: Guide,
 }
+
+// How far past a guess a place is sought before it is sought in a whole table.
+const REACH: usize = 12;
 
 // It stands beside each of its predecessors.
 fn push_predecessors<'a>(all: &mut Vec<Naming<'a>>, x: Numbered<'a>) -> Result<(), AllocError>
@@ -135,10 +142,10 @@ pub fn references<'a>(
 }
 
 // By the actor of the id, then by object.
-fn compare_actors(n: &Naming<'_>, obj: ObjRef<'_>, id: IdRef<'_>) -> Ordering
+fn compare_rest(n: &Naming<'_>, obj: ObjRef<'_>, id: IdRef<'_>) -> Ordering
     ensures { result ≡ ordering_then (bytes_cmp (named_of n.now).id.actor (id_of id.entry).actor) (object_cmp (named_of n.now).obj (object_of obj.entry)) }
 {
-    match n.id.actor.cmp(id.actor) {
+    match compare_actors(n.id.actor, id.actor) {
         Ordering::Less => Ordering::Less,
         Ordering::Equal => compare_objects(n.obj, obj),
         Ordering::Greater => Ordering::Greater,
@@ -151,7 +158,7 @@ fn compare_named(n: &Naming<'_>, obj: ObjRef<'_>, id: IdRef<'_>) -> Ordering
 {
     match n.id.counter.cmp(&id.counter) {
         Ordering::Less => Ordering::Less,
-        Ordering::Equal => compare_actors(n, obj, id),
+        Ordering::Equal => compare_rest(n, obj, id),
         Ordering::Greater => Ordering::Greater,
     }
 }
@@ -195,14 +202,27 @@ fn is_first(table: &[Naming<'_>], at: usize, obj: ObjRef<'_>, id: IdRef<'_>) -> 
     at == table.len() || !names_less(&table[at], obj, id)
 }
 
-// From where a table names this id, which may be near a place, and else is sought.
+// Behind a few that name less. No contract needs it.
+fn behind_less(table: &[Naming<'_>], from: usize, obj: ObjRef<'_>, id: IdRef<'_>) -> usize {
+    let mut at = from;
+    for _ in 0..REACH {
+        if at >= table.len() || !names_less(&table[at], obj, id) {
+            return at;
+        }
+        at += 1;
+    }
+    at
+}
+
+// From where a table names this id, which may be a little behind a place, and else is sought.
 fn first_near(table: &[Naming<'_>], near: usize, obj: ObjRef<'_>, id: IdRef<'_>) -> usize
     ensures bound { result ≤ length table.now }
     ensures first { IsPartitionedBy (λ n. is_lt (key_cmp (named_key (named_of n)) (object_of obj.entry, id_of id.entry))) table.now
         → IsPartitionPoint (λ n. is_lt (key_cmp (named_key (named_of n)) (object_of obj.entry, id_of id.entry)) ≡ true) (λ n. is_lt (key_cmp (named_key (named_of n)) (object_of obj.entry, id_of id.entry)) ≡ false) table.now result }
 {
-    if is_first(table, near, obj, id) {
-        return near;
+    let at = behind_less(table, near, obj, id);
+    if is_first(table, at, obj, id) {
+        return at;
     }
     table.partition_point(|n| names_less(n, obj, id))
 }
@@ -222,7 +242,7 @@ fn end_from(table: &[Naming<'_>], first: usize, obj: ObjRef<'_>, id: IdRef<'_>) 
     last
 }
 
-/// From where to where a sorted table names this id in this object. A place that may be the first is looked at before it is
+/// From where to where a sorted table names this id in this object. A place behind which it may be is looked at before it is
 /// sought.
 pub fn range_of(table: &[Naming<'_>], near: usize, obj: ObjRef<'_>, id: IdRef<'_>) -> (usize, usize)
     ensures order { result.0 ≤ result.1 }
@@ -234,16 +254,15 @@ pub fn range_of(table: &[Naming<'_>], near: usize, obj: ObjRef<'_>, id: IdRef<'_
     (first, last)
 }
 
-/// What a sorted table has of those that name this id in this object, sought near a place, which is moved behind them.
+/// What a sorted table has of those that name this id in this object, sought near a place first.
 pub fn named_in<'t, 'a>(
     table: &'t [Naming<'a>],
-    near: &mut usize,
+    near: usize,
     obj: ObjRef<'_>,
     id: IdRef<'_>,
 ) -> &'t [Naming<'a>]
     ensures { (xs : List Named) → map named_of table.now ≡ sorted_by named_cmp xs → map named_of result.now ≡ filter (is_named (object_of obj.entry) (id_of id.entry)) xs }
 {
-    let range = range_of(table, *near, obj, id);
-    *near = range.1;
+    let range = range_of(table, near, obj, id);
     &table[range.0..range.1]
 }

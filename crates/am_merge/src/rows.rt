@@ -12,6 +12,7 @@ ghost use Rattle.am_merge.specs.declared.naming.Naming.{Naming};
 
 use crate::added::{added_operations, backwards, beginning};
 use crate::carry::carry;
+use crate::guide::Guide;
 use crate::naming::{Tables, predecessors, references, sort_namings};
 use crate::stops::Walk;
 use crate::walk::walk_rows;
@@ -32,7 +33,14 @@ fn tables_of<'a>(alloc: Global, operations: &[Numbered<'a>]) -> Result<Tables<'a
     let back = backwards(alloc, operations)?;
     let mut hanging = references(alloc, operations, back.as_slice())?;
     sort_namings(&mut hanging)?;
-    Ok(Tables { named, hanging })
+    let named_guide = Guide::of(alloc, named.as_slice())?;
+    let hanging_guide = Guide::of(alloc, hanging.as_slice())?;
+    Ok(Tables {
+        named,
+        hanging,
+        named_guide,
+        hanging_guide,
+    })
 }
 
 // The walk before the first row.
@@ -48,7 +56,6 @@ fn start<'a>(alloc: Global, operations: &[Numbered<'a>]) -> Result<Walk<'a>, All
         skipped: 0,
         waiting,
         left: MOST,
-        near: 0,
     })
 }
 

@@ -7,8 +7,9 @@ ghost use Rattle.am_places.specs.Numbered.{operation_of};
 ghost use Rattle.am_merge.specs.Spots.{spot_in};
 ghost use Rattle.am_merge.specs.Walk.{falling_id, id_turn_cmp, lane_cmp, lane_of, name_in, rising_id, spot_cmp, spot_of};
 
+use crate::compare::{compare_ids, compare_objects};
 use am_places::Numbered;
-use am_types::{IdRef, KeyRef, ObjRef, compare_ids, compare_objects};
+use am_types::{IdRef, KeyRef, ObjRef};
 use std::cmp::Ordering;
 
 /// What the walk compares of a row or of an operation, lent.
@@ -70,8 +71,8 @@ fn falling<'a>(spot: &SpotRef<'a>) -> IdRef<'a>
     }
 }
 
-// By the id: the least first, but of insertions the greatest.
-fn compare_turns(a: &SpotRef<'_>, b: &SpotRef<'_>) -> Ordering
+/// By the id: the least first, but of insertions the greatest.
+pub fn compare_turns(a: &SpotRef<'_>, b: &SpotRef<'_>) -> Ordering
     ensures { result ≡ id_turn_cmp (spot_in a.now) (spot_in b.now) }
 {
     match compare_ids(rising(a), rising(b)) {

@@ -31,14 +31,13 @@ pub struct Stop<'a> {
 }
 
 /// How far the walk is: its stops, how many rows it copies since the last one, the operations that wait, the next one last,
-/// how many may still come, and near which place of its table the next element that is named may be sought.
+/// and how many may still come.
 #[derive(Drop)]
 pub struct Walk<'a> {
     pub stops: Vec<Stop<'a>>,
     pub skipped: u64,
     pub waiting: Vec<Numbered<'a>>,
     pub left: u64,
-    pub near: usize,
 }
 
 // Whether the new operation comes before the old row at this spot.
@@ -62,13 +61,13 @@ fn push_each<'a>(waiting: &mut Vec<Numbered<'a>>, hung: &[Naming<'a>]) -> Result
 // What names the element goes on the stack.
 fn push_element<'a>(
     waiting: &mut Vec<Numbered<'a>>,
-    near: &mut usize,
     tables: &Tables<'a>,
     obj: ObjRef<'_>,
     id: IdRef<'_>,
 ) -> Result<(), AllocError>
     ensures { OnOk result ((A : List Operation) → AreTables A tables.now → stacked waiting.new.items ≡ pushed (hung A (object_of obj.entry) (id_of id.entry)) (stacked waiting.old.items)) }
 {
+    let near = tables.hanging_guide.about(id.counter);
     push_each(waiting, named_in(tables.hanging.as_slice(), near, obj, id))?;
     Ok(())
 }
@@ -76,7 +75,6 @@ fn push_element<'a>(
 // Once an element has come, what names it waits.
 fn push_hung<'a>(
     waiting: &mut Vec<Numbered<'a>>,
-    near: &mut usize,
     tables: &Tables<'a>,
     insert: bool,
     obj: ObjRef<'_>,
@@ -85,7 +83,7 @@ fn push_hung<'a>(
     ensures { OnOk result ((A : List Operation) → AreTables A tables.now → stacked waiting.new.items ≡ behind_of A insert (object_of obj.entry) (id_of id.entry) (stacked waiting.old.items)) }
 {
     if insert {
-        push_element(waiting, near, tables, obj, id)?;
+        push_element(waiting, tables, obj, id)?;
         return Ok(());
     }
     Ok(())
@@ -113,26 +111,17 @@ fn note_stop<'a>(
     Ok(())
 }
 
-// Behind what is named at the last stop. No contract needs it.
-fn last_end(walk: &Walk<'_>) -> usize {
-    match walk.stops.as_slice().last() {
-        None => 0,
-        Some(stop) => stop.last,
-    }
-}
-
 // An operation comes: its row is new, and what names its element waits.
 fn put<'a>(walk: &mut Walk<'a>, tables: &Tables<'a>, y: Numbered<'a>) -> Result<(), AllocError>
     ensures left { OnOk result (walk.new.left ≡ walk.old.left) }
     ensures few { OnOk result (walk.new.skipped ≡ 0) }
     ensures put { OnOk result ((A : List Operation) → AreTables A tables.now → HasPut A tables.now.named.items walk.old walk.new (operation_of y.entry) (waiting_of walk.old)) }
 {
-    let near = last_end(walk);
+    let near = tables.named_guide.about(y.counter);
     let range = range_of(tables.named.as_slice(), near, ObjRef::Root, y.id());
     note_stop(walk, Some(y), range.0, range.1)?;
     push_hung(
         &mut walk.waiting,
-        &mut walk.near,
         tables,
         y.op.insert,
         y.op.obj.lend(),
@@ -228,17 +217,10 @@ pub fn pass<'a>(
     ensures passed { OnOk result ((A : List Operation) → AreTables A tables.now → (r : Row) → spot_of_row r ≡ spot_in row.now
         → HasPassed A tables.now.named.items walk.old walk.new r) }
 {
-    let near = last_end(walk);
+    let near = tables.named_guide.about(row.id.counter);
     let range = range_of(tables.named.as_slice(), near, ObjRef::Root, row.id);
     take_row(walk, range.0, range.1)?;
-    push_hung(
-        &mut walk.waiting,
-        &mut walk.near,
-        tables,
-        row.insert,
-        row.obj,
-        row.id,
-    )?;
+    push_hung(&mut walk.waiting, tables, row.insert, row.obj, row.id)?;
     Ok(())
 }
 

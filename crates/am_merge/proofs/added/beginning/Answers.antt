@@ -8,9 +8,11 @@ use Rattle.am_merge.proofs.added.beginning.Goals as goal
 
 pub returns : goal.returns
 returns c =
-    let sorted = c.sort_spots.new.all.items in
+    let all = c.in_ok-all.all.items in
     ap (λ l. reverse (map operation_of l)) c.reverse.ensures.items
-    ∙ ap reverse (map-reverse operation_of sorted)
-    ∙ reverse-reverse (map operation_of sorted)
-    ∙ c.in_ok-sort_spots.ensures
-    ∙ ap (sorted_by by_spot) c.in_ok-all.ensures
+    ∙ ap reverse (map-reverse operation_of all)
+    ∙ reverse-reverse (map operation_of all)
+    ∙ c.in_ok-all.ensures
+    ∙ c.as_slice.ensures.value
+    ∙ c.in_ok-sort_starts.ensures
+    ∙ ap (sorted_by by_spot) c.in_ok-starts.ensures

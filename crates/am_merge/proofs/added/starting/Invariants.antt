@@ -4,4 +4,4 @@ use Rattle.am_merge.specs.Walk.{starts}
 use Rattle.am_merge.proofs.added.starting.Given as goal
 
 abbrev pub invariant-loop-i : goal.invariant-loop-i
-invariant-loop-i l = map operation_of l.all.items ≡ filter starts (map operation_of (take l.i l.operations))
+invariant-loop-i l = l.all.items ≡ filter starts (map operation_of (take l.i l.operations))

@@ -9,7 +9,7 @@ use Rattle.am_merge.proofs.naming.first_near.Goals as goal
 
 pub returns-then-is_first-clause-first : goal.returns-then-is_first-clause-first
 returns-then-is_first-clause-first c parted =
-    at_seam (λ (n : Naming). is_lt (key_cmp (named_key (named_of n)) (object_of c.args.obj, id_of c.args.id))) c.args.table.now c.args.near parted
+    at_seam (λ (n : Naming). is_lt (key_cmp (named_key (named_of n)) (object_of c.args.obj, id_of c.args.id))) c.args.table.now c.behind_less-at.result parted
     (c.is_first.ensures c.if-is_first.true)
 
 pub returns-clause-first : goal.returns-clause-first
