@@ -12,7 +12,7 @@ use crate::reading::finished;
 use crate::replies::unknown;
 use am_delivery::part_is_valid;
 use am_graph::ClockFault;
-use am_json::{Form, JsonMaker, order_front};
+use am_json::{Form, LentJsonMaker, order_front};
 use am_replay::{entries_are_in_order, replay};
 use am_store::Store;
 use am_types::{Bytes, Change, Entry, Hash};
@@ -24,9 +24,9 @@ fn print(alloc: Global, entries: &[Entry]) -> Result<Bytes, AllocError>
     ensures { IfOk result (λ reply. reply ≡ printed (json_data Winners entries.now)) }
 {
     order_front();
-    let mut maker = JsonMaker::new(alloc, Form::Winners);
+    let mut maker = LentJsonMaker::new(alloc, Form::Winners);
     for entry in entries {
-        maker.push(alloc, entry.lend())?;
+        maker.push(entry.lend())?;
     }
     finished(alloc, maker)
 }

@@ -12,7 +12,7 @@ ghost use Rattle.am_session.specs.Reading.{printed, reading_at};
 use crate::replies::{refusal, unknown};
 use am_delivery::part_is_valid;
 use am_graph::{Clock, ClockFault};
-use am_json::{Form, JsonFault, JsonMaker, order_front};
+use am_json::{Form, JsonFault, LentJsonMaker, order_front};
 use am_replay::entries_are_in_order;
 use am_store::Store;
 use am_types::{Bytes, Hash};
@@ -30,8 +30,8 @@ fn ended(text: Bytes) -> Result<Bytes, AllocError>
 
 /// The reply with the text of the entries that were pushed. One that nests too deep is refused.
 #[tactic(auto, using(crate::proofs::PrintedText::fits_text, crate::proofs::PrintedText::deep_text))]
-pub fn finished(alloc: Global, maker: JsonMaker) -> Result<Bytes, AllocError>
-    ensures { IfOk result (λ reply. reply ≡ printed (json_data maker.form maker.entries)) }
+pub fn finished(alloc: Global, maker: LentJsonMaker<'_>) -> Result<Bytes, AllocError>
+    ensures { IfOk result (λ reply. reply ≡ printed (json_data maker.entry.form maker.entry.entries)) }
 {
     match maker.finish(alloc) {
         Ok(text) => ended(text),
@@ -41,16 +41,16 @@ pub fn finished(alloc: Global, maker: JsonMaker) -> Result<Bytes, AllocError>
 }
 
 // The entries that are handed out, pushed as they come.
-fn pushed(alloc: Global, form: Form, shown: Shown<'_>) -> Result<JsonMaker, AllocError>
+fn pushed<'a>(alloc: Global, form: Form, shown: Shown<'a>) -> Result<LentJsonMaker<'a>, AllocError>
     requires { IsInOrder shown }
     ensures form { IfOk result (λ maker. maker.form ≡ form) }
     ensures entries { IfOk result (λ maker. maker.entries ≡ shown.entry) }
 {
     order_front();
-    let mut maker = JsonMaker::new(alloc, form);
+    let mut maker = LentJsonMaker::new(alloc, form);
     let mut rest = shown;
     while let Some(entry) = rest.next() {
-        maker.push(alloc, entry)?;
+        maker.push(entry)?;
     }
     Ok(maker)
 }
@@ -73,7 +73,7 @@ fn clock_at(alloc: Global, hashes: &[Hash], store: &Store) -> Result<Clock, Cloc
     store.graph().clock(alloc, hashes)
 }
 
-/// What is visible at these hashes. Of the changes nothing is decoded, and each entry is copied as it comes.
+/// What is visible at these hashes. Of the changes nothing is decoded, and no entry is copied.
 pub fn read_at(
     alloc: Global,
     form: Form,
