@@ -14,6 +14,7 @@ pub mod Picking
 pub mod Reading
 pub mod ReadSteps
 pub mod Rebuilds
+pub mod Stagings
 pub mod Taking
 pub mod Telling
 pub mod Unambiguous

@@ -11,4 +11,7 @@ pub mod Laws
 pub mod Listed
 pub mod Reading
 pub mod Saved
+pub mod Staged
+pub mod Staging
+pub mod Unsettled
 pub mod Whole

@@ -51,7 +51,7 @@ pub fn enlarge(
 }
 
 /// The contents of the larger set.
-fn larger_of(
+pub fn larger_of(
     alloc: Global,
     contents: &[u8],
     joined: &[&Change],

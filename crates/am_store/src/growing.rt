@@ -79,7 +79,7 @@ fn enter(
 }
 
 /// Takes a change in, behind those that have joined. Without memory nothing has changed.
-fn grow(
+pub(crate) fn grow(
     alloc: Global,
     graph: &mut Graph,
     index: &mut OpIndex,
@@ -100,7 +100,12 @@ fn grow(
 }
 
 /// Whether a change is equal to the one with its hash among these.
-fn is_among(graph: &Graph, entries: &[(Hash, Change)], hash: &Hash, change: &Change) -> bool
+pub(crate) fn is_among(
+    graph: &Graph,
+    entries: &[(Hash, Change)],
+    hash: &Hash,
+    change: &Change,
+) -> bool
     requires of_set { graph.now ≡ nodes (members_of entries.now) }
     requires held { holds (members_of entries.now) hash.now ≡ true }
     ensures { option_map (λ m. same_change m.change change.now) (member (members_of entries.now) hash.now) ≡ Some result }

@@ -17,8 +17,11 @@ mod parts;
 mod rebuilding;
 mod report;
 mod saving;
+mod staged_store;
+mod staging;
 mod store;
 mod unseen;
+mod unsettled;
 mod waiting;
 
 pub use am_graph::ClockFault;
@@ -27,4 +30,5 @@ pub use fault::{LoadError, LoadFault, ReadFault};
 pub use history::HistoryLine;
 pub use laws::{documents_are_read_back, documents_tell_sets, one_reading};
 pub use report::{Counts, Report};
+pub use staged_store::StagedStore;
 pub use store::Store;

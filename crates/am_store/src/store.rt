@@ -53,13 +53,13 @@ use std::mem::replace;
 /// they are asked for.
 #[derive(Drop)]
 pub struct Store {
-    contents: Bytes,
-    graph: Graph,
-    index: OpIndex,
-    waiting: Waiting,
-    counts: Counts,
-    alloc: Global,
-    closed: Unseen,
+    pub(crate) contents: Bytes,
+    pub(crate) graph: Graph,
+    pub(crate) index: OpIndex,
+    pub(crate) waiting: Waiting,
+    pub(crate) counts: Counts,
+    pub(crate) alloc: Global,
+    pub(crate) closed: Unseen,
 }
 
 impl Model for Store {
@@ -130,7 +130,11 @@ impl Store {
     }
 
     /// Delivers the changes of a file. Where there are no others, those of one document alone are taken over.
-    fn take_file(&mut self, alloc: Global, changes: FileChanges<'_>) -> Result<Report, AllocError>
+    pub(crate) fn take_file(
+        &mut self,
+        alloc: Global,
+        changes: FileChanges<'_>,
+    ) -> Result<Report, AllocError>
         requires may_come { All MayCome (members_of changes) }
         requires own_hashes { HasOwnHashes (members_of changes) }
         ensures ok { IfOk result (λ report. Takes self.old (members_of changes.entry) report self.new) }
@@ -265,12 +269,7 @@ impl Store {
         ensures hashes { IfOk result (λ waiting. waiting ≡ hashes self.now.waiting) }
         ensures ascend { IfOk result (λ waiting. Ascends hash_cmp waiting) }
     {
-        let _count = self.waiting.changes.len();
-        let mut hashes = List::new(alloc);
-        for hash in self.waiting.changes.keys() {
-            hashes.push(*hash)?;
-        }
-        Ok(hashes)
+        self.waiting.hashes(alloc)
     }
 
     /// The graph of the closed set.
@@ -362,7 +361,7 @@ impl Store {
 }
 
 /// How many changes there are.
-fn count_of(changes: &[(Hash, Change)]) -> u64
+pub(crate) fn count_of(changes: &[(Hash, Change)]) -> u64
     ensures { result ≡ length changes.now }
 {
     changes.len() as u64

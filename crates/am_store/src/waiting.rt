@@ -1,9 +1,12 @@
 //! The changes of a store that wait for dependencies.
 ghost use Rattle.std.specs.Prelude.{◌≡◌, IfOk, None, [], length};
+ghost use Rattle.am_types.specs.Members.{hashes};
+ghost use Rattle.am_types.specs.Order.{hash_cmp, Ascends};
+ghost use Rattle.am_delivery.specs.Waiting.{waiting_of};
 
 use crate::copies::map_copied;
 use am_delivery::Pending;
-use am_types::{Change, Hash};
+use am_types::{Change, Hash, List};
 use std::alloc::{AllocError, Global};
 use std::collections::BTreeMap;
 
@@ -32,6 +35,19 @@ impl Waiting {
         ensures { result ≡ length self.now.changes.entries }
     {
         self.changes.len() as u64
+    }
+
+    /// The hashes, ascending.
+    pub fn hashes(&self, alloc: Global) -> Result<List<Hash>, AllocError>
+        ensures hashes { IfOk result (λ waiting. waiting ≡ hashes (waiting_of self.now.changes)) }
+        ensures ascend { IfOk result (λ waiting. Ascends hash_cmp waiting) }
+    {
+        let _count = self.changes.len();
+        let mut hashes = List::new(alloc);
+        for hash in self.changes.keys() {
+            hashes.push(*hash)?;
+        }
+        Ok(hashes)
     }
 
     /// The same changes. What they lack isn't known there.

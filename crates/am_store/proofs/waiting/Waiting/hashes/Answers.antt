@@ -3,22 +3,20 @@ use Rattle.std.specs.BTreeMap.{keys}
 use Rattle.std.specs.Map.Iter.{deref}
 use Rattle.std.proofs.lemmas.Map.Iter.{iter_end}
 use Rattle.am_types.specs.Order.{hash_cmp, Ascends}
-use Rattle.am_types.specs.Members.{hashes}
-use Rattle.am_store.specs.Kept.{Kept}
 use Rattle.am_store.proofs.Hashes.{keys_hashes}
 use Rattle.am_store.proofs.Picking.{ascend}
-use Rattle.am_store.proofs.store.Store.waiting.Goals as goal
+use Rattle.am_store.proofs.waiting.Waiting.hashes.Goals as goal
 
 pub returns-clause-hashes : goal.returns-clause-hashes
 returns-clause-hashes c =
-    let w = c.self.inside.waiting.changes in
+    let w = c.args.self.now.changes in
     let start : c.into_iter-hash-iterator.result ≡ keys w = c.into_iter-hash-iterator.ensures.into_iter_gives ∙ c.keys-hash-items.ensures.rest in
     let all = iter_end deref (keys w) c.loop-hash.yielded _ _ _ c.next.result start c.loop-hash.yielded_by c.in-None.is c.next.ensures.steps in
-    c.loop-hash.invariant ∙ all.0 ∙ keys_hashes w.entries ∙ ap (λ (k : Kept). hashes k.waiting) c.self.view_is
+    c.loop-hash.invariant ∙ all.0 ∙ keys_hashes w.entries
 
 pub returns-clause-ascend : goal.returns-clause-ascend
 returns-clause-ascend c =
-    let w = c.self.inside.waiting.changes in
+    let w = c.args.self.now.changes in
     let start : c.into_iter-hash-iterator.result ≡ keys w = c.into_iter-hash-iterator.ensures.into_iter_gives ∙ c.keys-hash-items.ensures.rest in
     let all = iter_end deref (keys w) c.loop-hash.yielded _ _ _ c.next.result start c.loop-hash.yielded_by c.in-None.is c.next.ensures.steps in
     subst (Ascends hash_cmp) (sym (c.loop-hash.invariant ∙ all.0)) (ascend (keys w) c.keys-hash-items.ensures.ordered)

@@ -1,0 +1,68 @@
+-- A closed set whose document lacks its last changes.
+use Rattle.std.proofs.Common.{ℕ, ◌≡◌, List, [], ◌++◌, sym, ap, ◌∙◌, subst}
+use Rattle.std.proofs.lemmas.List.{map-append, append-nil, append_assoc}
+use Rattle.std.proofs.lemmas.List.Elements.{All-append, All-nil}
+use Rattle.am_types.specs.declared.Hash.{Hash}
+use Rattle.am_types.specs.declared.Change.{Change}
+use Rattle.am_types.specs.Members.{Member, changes}
+use Rattle.am_types.specs.ValidSets.{Valid}
+use Rattle.am_types.specs.Documents.{table}
+use Rattle.am_change.specs.Judgement.{HasOwnHashes}
+use Rattle.am_graph.specs.declared.Node.{Node}
+use Rattle.am_graph.specs.Graphs.{nodes}
+use Rattle.am_fits.specs.declared.Totals.{Totals}
+use Rattle.am_fits.specs.Indexes.{Indexed, AreOf}
+use Rattle.am_delivery.specs.Waiting.{members_of}
+use Rattle.am_doc.specs.Contents.{body}
+use Rattle.am_store.specs.Contents.{IsContents, IsLarger}
+use Rattle.am_store.specs.Grown.{AreGrown, IsOwn}
+use Rattle.am_store.specs.Staging.{AreStaged}
+
+-- the document has all
+pub none_staged : (written old : List (Hash × Change)) (staged : List Change) → written ≡ old → staged ≡ [] → AreStaged written old staged
+none_staged written old staged e none = record {
+  added = [];
+  behind = ap members_of (sym e) ∙ sym (append-nil (members_of written));
+  are = sym none;
+  own_hashes = All-nil IsOwn;
+}
+
+-- what has joined is cut off
+pub cut_back : (old fresh none : List (Hash × Change)) (g h : List (Hash × Node)) (ix iy : Indexed) (t : Totals) → AreGrown old fresh g ix t → Valid (members_of old) → none ≡ []
+    → AreOf (members_of old) h iy → AreGrown old none h iy t
+cut_back old fresh none g h ix iy t are valid e of =
+    let all : old ≡ old ++ none = sym (append-nil old) ∙ ap (λ l. old ++ l) (sym e) in
+    record {
+      of_set = subst (λ es. AreOf (members_of es) h iy) all of;
+      valid = subst (λ es. Valid (members_of es)) all valid;
+      totals = are.totals;
+    }
+
+-- E has joined, and is staged
+pub more_staged : (written old fresh all : List (Hash × Change)) (before after : List Change) → AreStaged written old before
+    → (E : List Member) → members_of (old ++ fresh) ≡ members_of old ++ E → (cs : List Change) → changes E ≡ cs → HasOwnHashes E
+    → all ≡ old ++ fresh → after ≡ before ++ cs → AreStaged written all after
+more_staged written old fresh all before after st E e cs same own is more = record {
+  added = st.added ++ E;
+  behind = ap members_of is ∙ e ∙ ap (λ C. C ++ E) st.behind ∙ append_assoc (members_of written) st.added E;
+  are = map-append (λ (m : Member). m.change) st.added E ∙ (λ i. st.are i ++ same i) ∙ sym more;
+  own_hashes = All-append IsOwn st.added E st.own_hashes own;
+}
+
+-- at rest, the staged changes make the document that of the whole set
+module _ (written old fresh : List (Hash × Change)) (g : List (Hash × Node)) (ix : Indexed) (t : Totals) (are : AreGrown old fresh g ix t) (bytes : List ℕ) (is : IsContents (members_of written) bytes)
+    (staged : List Change) (st : AreStaged written old staged) (rest : members_of (old ++ fresh) ≡ members_of old) where
+  pub staged_larger : (cs : List Change) → cs ≡ staged → IsLarger bytes cs g (members_of written) st.added
+  staged_larger cs e = record {
+    before = is;
+    valid = subst Valid (rest ∙ st.behind) are.valid;
+    added = st.are ∙ sym e;
+    graph = are.of_set.graph ∙ ap nodes (rest ∙ st.behind);
+  }
+
+  pub staged_contents : (new : List ℕ) → new ≡ body (table (members_of written ++ st.added)) → IsContents (members_of old) new
+  staged_contents new f = record {
+    valid = subst Valid rest are.valid;
+    own_hashes = subst HasOwnHashes (sym st.behind) (All-append IsOwn (members_of written) st.added is.own_hashes st.own_hashes);
+    bytes_are = f ∙ ap (λ C. body (table C)) (sym st.behind);
+  }
