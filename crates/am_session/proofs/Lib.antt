@@ -14,4 +14,5 @@ pub mod PrintedText
 pub mod Pushed
 pub mod SameHeld
 pub mod SameView
+pub mod Settling
 pub mod Texts

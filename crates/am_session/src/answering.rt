@@ -10,10 +10,8 @@ ghost use Rattle.am_session.specs.Answered.{Answered, seen};
 ghost use Rattle.am_session.specs.FirstFault.{Ended, is_err_at, is_file_stop};
 
 use crate::apply::apply;
-use crate::audit::audit;
 use crate::bench::bench;
 use crate::heads::{list_heads, list_waiting};
-use crate::history::list_history;
 use crate::listing::list_frames;
 use crate::replies::refusal;
 use crate::request::RequestRef;
@@ -118,18 +116,16 @@ pub fn answer<F: Folder>(
         RequestRef::Do(Command::Load(name)) => loaded(alloc, name, session, files),
         RequestRef::Do(Command::Save(name)) => saved(alloc, name, session, files),
         RequestRef::Do(Command::SaveAll(name)) => saved_all(alloc, name, session, files),
-        RequestRef::Do(Command::Heads) => Ok(list_heads(alloc, session.store())?),
-        RequestRef::Do(Command::Waiting) => Ok(list_waiting(alloc, session.store())?),
-        RequestRef::Do(Command::History) => Ok(list_history(alloc, session.store())?),
+        RequestRef::Do(Command::Heads) => Ok(list_heads(alloc, session)?),
+        RequestRef::Do(Command::Waiting) => Ok(list_waiting(alloc, session)?),
+        RequestRef::Do(Command::History) => Ok(session.history(alloc)?),
         RequestRef::Do(Command::Show(named)) => {
             Ok(session.show(alloc, Form::Winners, named.as_slice())?)
         }
         RequestRef::Do(Command::Conflicts(named)) => {
             Ok(session.show(alloc, Form::All, named.as_slice())?)
         }
-        RequestRef::Do(Command::Audit(named)) => {
-            Ok(audit(alloc, named.as_slice(), session.store())?)
-        }
+        RequestRef::Do(Command::Audit(named)) => Ok(session.audit(alloc, named.as_slice())?),
         RequestRef::Do(Command::Export(hash, name)) => {
             exported(alloc, hash, name, session, files)
         }

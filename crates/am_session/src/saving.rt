@@ -42,14 +42,14 @@ fn keep<F: Folder>(alloc: Global, name: &str, bytes: &[u8], files: &mut F) -> Re
 pub fn saved<F: Folder>(
     alloc: Global,
     name: &Text,
-    session: &Session,
+    session: &mut Session,
     files: &mut F,
 ) -> Result<Bytes, Stop>
-    ensures { Answered (Do (Save name.now)) session.now
-        (seen (F.files files.old) (F.misses files.old) (F.faults files.old) (F.calls files.old)) result session.now
+    ensures { Answered (Do (Save name.now)) session.old
+        (seen (F.files files.old) (F.misses files.old) (F.faults files.old) (F.calls files.old)) result session.new
         (seen (F.files files.new) (F.misses files.new) (F.faults files.new) (F.calls files.new)) }
 {
-    let file = session.store().save(alloc)?;
+    let file = session.document(alloc)?;
     keep(alloc, name.as_str(), file.as_slice(), files)
 }
 
@@ -58,14 +58,14 @@ pub fn saved<F: Folder>(
 pub fn saved_all<F: Folder>(
     alloc: Global,
     name: &Text,
-    session: &Session,
+    session: &mut Session,
     files: &mut F,
 ) -> Result<Bytes, Stop>
-    ensures { Answered (Do (SaveAll name.now)) session.now
-        (seen (F.files files.old) (F.misses files.old) (F.faults files.old) (F.calls files.old)) result session.now
+    ensures { Answered (Do (SaveAll name.now)) session.old
+        (seen (F.files files.old) (F.misses files.old) (F.faults files.old) (F.calls files.old)) result session.new
         (seen (F.files files.new) (F.misses files.new) (F.faults files.new) (F.calls files.new)) }
 {
-    let file = session.store().save_all(alloc)?;
+    let file = session.whole_file(alloc)?;
     keep(alloc, name.as_str(), file.as_slice(), files)
 }
 
@@ -75,14 +75,14 @@ pub fn exported<F: Folder>(
     alloc: Global,
     hash: &Hash,
     name: &Text,
-    session: &Session,
+    session: &mut Session,
     files: &mut F,
 ) -> Result<Bytes, Stop>
-    ensures { Answered (Do (Export hash.now name.now)) session.now
-        (seen (F.files files.old) (F.misses files.old) (F.faults files.old) (F.calls files.old)) result session.now
+    ensures { Answered (Do (Export hash.now name.now)) session.old
+        (seen (F.files files.old) (F.misses files.old) (F.faults files.old) (F.calls files.old)) result session.new
         (seen (F.files files.new) (F.misses files.new) (F.faults files.new) (F.calls files.new)) }
 {
-    match session.store().change(alloc, hash)? {
+    match session.chunk(alloc, hash)? {
         Some(chunk) => keep(alloc, name.as_str(), chunk.as_slice(), files),
         None => Ok(unknown(alloc, hash)?),
     }

@@ -1,30 +1,42 @@
 //! What stands from command to command.
-ghost use Rattle.std.specs.Prelude.{◌≡◌, None, IfOk, IfErr, OnOk, OnErr, IfSome, List};
+ghost use Rattle.std.specs.Prelude.{◌≡◌, None, IfOk, IfErr, OnOk, OnErr, IfSome, List, length};
 ghost use Rattle.am_types.specs.declared.Change.{Change};
-ghost use Rattle.am_types.specs.Members.{heads};
+ghost use Rattle.am_types.specs.Documents.{table};
+ghost use Rattle.am_types.specs.Members.{heads, hashes};
+ghost use Rattle.am_types.specs.Order.{hash_cmp, Ascends};
+ghost use Rattle.am_doc.specs.Contents.{body};
+ghost use Rattle.am_graph.specs.Graphs.{nodes};
+ghost use Rattle.am_json.specs.declared.Form.TheVariants.{Winners};
 ghost use Rattle.am_cache.specs.Kept.{text_of, looked_up, with_text};
-ghost use Rattle.am_store.specs.Kept.{Kept, Delivered};
+ghost use Rattle.am_store.specs.Kept.{Kept, IsKept, Delivered, counts_of};
 ghost use Rattle.am_store.specs.Files.{IsFile, FirstBad};
+ghost use Rattle.am_store.specs.History.{history};
+ghost use Rattle.am_store.specs.Saved.{document, saved_all, chunk_in};
 ghost use Rattle.am_store.specs.Whole.{MatchLoad};
+ghost use Rattle.am_session.specs.History.{history_text};
+ghost use Rattle.am_session.specs.Reading.{reading};
 ghost use Rattle.am_session.specs.Session.{nothing_held, with_kept, with_views};
 ghost use Rattle.am_session.specs.Views.{each_once, view_at, ShowsAt, Shows, IsText};
 
+use crate::audit::audit;
+use crate::history::list_history;
 use crate::reading::read_at;
 use crate::replies::refuses;
 use crate::views::view_at;
 use am_cache::{Cache, View};
+use am_graph::Graph;
 use am_json::Form;
 use am_laws::views_stay;
-use am_store::{ReadFault, Report, Store};
+use am_store::{Counts, ReadFault, Report, StagedStore};
 use am_types::{Bytes, Hash, List, Twin};
 use std::alloc::{AllocError, Global};
 use std::marker::Model;
 
 /// A session: a store, and the texts that were printed last. Contracts see what it holds. Each text is what would be
-/// printed now.
+/// printed now. What reads the document of the store settles it first, which changes nothing that is held.
 #[derive(Drop)]
 pub struct Session {
-    store: Store,
+    store: StagedStore,
     views: Cache,
     // The heads of the closed set, where they were listed since it last changed.
     heads: Option<List<Hash>>,
@@ -36,9 +48,9 @@ impl Model for Session {
 
     ghost Value = { Held };
 
-    ghost view = { λ s. held s.store s.views };
+    ghost view = { λ s. held s.store.kept s.views };
 
-    ghost invariant = { λ s. AreTexts s.store.closed s.views × AreHeads s.store.closed s.heads };
+    ghost invariant = { λ s. AreTexts s.store.kept.closed s.views × AreHeads s.store.kept.closed s.heads };
 }
 
 impl Session {
@@ -47,17 +59,87 @@ impl Session {
         ensures { IfOk result (λ session. session ≡ nothing_held) }
     {
         Ok(Session {
-            store: Store::new(alloc)?,
+            store: StagedStore::new(alloc)?,
             views: Cache::new(alloc)?,
             heads: None,
         })
     }
 
-    /// The store of its changes.
-    pub(crate) fn store(&self) -> &Store
-        ensures { result.now ≡ self.now.kept }
+    /// The graph of the closed set.
+    pub(crate) fn graph(&self) -> &Graph
+        ensures graph { result.now ≡ nodes self.now.kept.closed }
+        ensures kept { IsKept self.now.kept }
     {
-        &self.store
+        self.store.graph()
+    }
+
+    /// How much its store holds.
+    pub(crate) fn counts(&self) -> Counts
+        ensures { result ≡ counts_of self.now.kept }
+    {
+        self.store.counts()
+    }
+
+    /// The hashes of the waiting changes, ascending.
+    pub(crate) fn waiting(&self, alloc: Global) -> Result<List<Hash>, AllocError>
+        ensures hashes { IfOk result (λ waiting. waiting ≡ hashes self.now.kept.waiting) }
+        ensures ascend { IfOk result (λ waiting. Ascends hash_cmp waiting) }
+    {
+        self.store.waiting(alloc)
+    }
+
+    /// The file of the document of the closed set.
+    pub(crate) fn document(&mut self, alloc: Global) -> Result<Bytes, AllocError>
+        ensures file { IfOk result (λ file. file ≡ document self.old.kept.closed) }
+        ensures same { self.new ≡ self.old }
+    {
+        self.store.settle(alloc)?;
+        self.store.store().save(alloc)
+    }
+
+    /// The file of the document, and behind it the chunks of the waiting changes.
+    pub(crate) fn whole_file(&mut self, alloc: Global) -> Result<Bytes, AllocError>
+        ensures file { IfOk result (λ file. file ≡ saved_all self.old.kept) }
+        ensures same { self.new ≡ self.old }
+    {
+        self.store.settle(alloc)?;
+        self.store.store().save_all(alloc)
+    }
+
+    /// The chunk of the change with this hash, or None where the closed set doesn't hold it.
+    pub(crate) fn chunk(&mut self, alloc: Global, hash: &Hash) -> Result<Option<Bytes>, AllocError>
+        ensures found { IfOk result (λ found. found ≡ chunk_in self.old.kept.closed hash.now) }
+        ensures same { self.new ≡ self.old }
+    {
+        self.store.settle(alloc)?;
+        self.store.store().change(alloc, hash)
+    }
+
+    /// The reply to history.
+    pub(crate) fn history(&mut self, alloc: Global) -> Result<Bytes, AllocError>
+        ensures reply { IfOk result (λ reply. reply ≡ history_text (history self.old.kept.closed)) }
+        ensures same { self.new ≡ self.old }
+    {
+        self.store.settle(alloc)?;
+        list_history(alloc, self.store.store())
+    }
+
+    /// The reply to audit.
+    pub(crate) fn audit(&mut self, alloc: Global, named: &[Hash]) -> Result<Bytes, AllocError>
+        ensures reply { IfOk result (λ reply. reply ≡ reading Winners named.now self.old.kept.closed) }
+        ensures same { self.new ≡ self.old }
+    {
+        self.store.settle(alloc)?;
+        audit(alloc, named, self.store.store())
+    }
+
+    /// How long the contents of the document are.
+    pub(crate) fn contents_length(&mut self, alloc: Global) -> Result<u64, AllocError>
+        ensures length { IfOk result (λ count. count ≡ length (body (table self.old.kept.closed))) }
+        ensures same { self.new ≡ self.old }
+    {
+        self.store.settle(alloc)?;
+        Ok(self.store.store().contents().len() as u64)
     }
 
     /// How often a text was found. The number stands still at 2^64 - 1.
@@ -119,7 +201,8 @@ impl Session {
         requires none { text_of view self.now.views ≡ None }
         ensures { IfOk result (λ reply. ShowsAt view.form hashes.now self.old reply self.new) }
     {
-        let reply = read_at(alloc, view.form, hashes, &self.store)?;
+        self.store.settle(alloc)?;
+        let reply = read_at(alloc, view.form, hashes, self.store.store())?;
         if refuses(reply.as_slice()) {
             return Ok(reply);
         }

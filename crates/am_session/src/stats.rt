@@ -1,21 +1,12 @@
 //! The command that tells how much is held.
-ghost use Rattle.std.specs.Prelude.{◌≡◌, length, IfOk};
-ghost use Rattle.am_types.specs.Documents.{table};
-ghost use Rattle.am_doc.specs.Contents.{body};
+ghost use Rattle.std.specs.Prelude.{◌≡◌, IfOk};
 ghost use Rattle.am_session.specs.Stats.{stats_line, stats_text};
 
 use crate::replies::push_number;
 use crate::session::Session;
-use am_store::{Counts, Store};
+use am_store::Counts;
 use am_types::Bytes;
 use std::alloc::{AllocError, Global};
-
-// How long the contents of the document are.
-fn contents_length(store: &Store) -> u64
-    ensures { result ≡ length (body (table store.now.closed)) }
-{
-    store.contents().len() as u64
-}
 
 // The line that tells these numbers.
 fn stats_line(alloc: Global, counts: Counts, bytes: u64, hits: u64) -> Result<Bytes, AllocError>
@@ -34,10 +25,11 @@ fn stats_line(alloc: Global, counts: Counts, bytes: u64, hits: u64) -> Result<By
 }
 
 /// How much the store holds, how long its document is, and how often a view was found.
-pub fn tell_stats(alloc: Global, session: &Session) -> Result<Bytes, AllocError>
-    ensures { IfOk result (λ reply. reply ≡ stats_text session.now.kept session.now.views.hits) }
+pub fn tell_stats(alloc: Global, session: &mut Session) -> Result<Bytes, AllocError>
+    ensures reply { IfOk result (λ reply. reply ≡ stats_text session.old.kept session.old.views.hits) }
+    ensures same { session.new ≡ session.old }
 {
-    let counts = session.store().counts();
-    let bytes = contents_length(session.store());
+    let bytes = session.contents_length(alloc)?;
+    let counts = session.counts();
     stats_line(alloc, counts, bytes, session.hits())
 }
