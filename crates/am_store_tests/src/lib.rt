@@ -22,4 +22,6 @@ mod loading;
 #[cfg(test)]
 mod saving;
 #[cfg(test)]
+mod staging;
+#[cfg(test)]
 mod turning;
