@@ -1,5 +1,5 @@
 -- A closed set whose document lacks its last changes.
-use Rattle.std.proofs.Common.{ℕ, ◌≡◌, List, [], ◌++◌, sym, ap, ◌∙◌, subst}
+use Rattle.std.proofs.Common.{ℕ, ◌≡◌, List, [], ◌∷◌, ◌++◌, refl, sym, ap, ◌∙◌, subst}
 use Rattle.std.proofs.lemmas.List.{map-append, append-nil, append_assoc}
 use Rattle.std.proofs.lemmas.List.Elements.{All-append, All-nil}
 use Rattle.am_types.specs.declared.Hash.{Hash}
@@ -26,6 +26,17 @@ none_staged written old staged e none = record {
   are = sym none;
   own_hashes = All-nil IsOwn;
 }
+
+no_member : (E : List Member) → changes E ≡ [] → E ≡ []
+no_member [] e = refl
+no_member (m ∷ E) e = cc
+
+-- where nothing is staged, the document lacks nothing
+pub all_written : (written old : List (Hash × Change)) (staged : List Change) → AreStaged written old staged → staged ≡ [] → (bytes : List ℕ) → IsContents (members_of written) bytes
+    → IsContents (members_of old) bytes
+all_written written old staged st none bytes is =
+    let same : members_of old ≡ members_of written = st.behind ∙ ap (λ E. members_of written ++ E) (no_member st.added (st.are ∙ none)) ∙ append-nil (members_of written) in
+    subst (λ C. IsContents C bytes) (sym same) is
 
 -- what has joined is cut off
 pub cut_back : (old fresh none : List (Hash × Change)) (g h : List (Hash × Node)) (ix iy : Indexed) (t : Totals) → AreGrown old fresh g ix t → Valid (members_of old) → none ≡ []

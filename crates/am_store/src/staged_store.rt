@@ -26,19 +26,26 @@ use std::alloc::{AllocError, Global};
 use std::marker::Model;
 use std::mem::replace;
 
-// So many operations are staged whatever the size of the document.
+// So many operations and changes may be staged whatever the size of the document.
 const FEW: u64 = 4096;
 
+// So many bytes of files may be staged, whatever the length of the document: a mebibyte.
+const SHORT: u64 = 1 << 20;
+
 /// A store to which small deliveries come one after another. The changes that join are staged, and the document is made of
-/// them once, when the store is settled: before it is read. Contracts see the two lists of changes of a store, and whether
+/// many of them at once, at the latest when the store is settled: before it is read. Contracts see the two lists of changes of a store, and whether
 /// it is settled.
 #[derive(Drop)]
 pub struct StagedStore {
     // The store of all, where nothing is staged. Else it is of no use.
     store: Store,
     ahead: Option<Unsettled>,
-    // The operations and changes of the document.
+    // How many operations and changes the document has.
     written: u64,
+    // How long its contents are.
+    length: u64,
+    // How long the files are together that were delivered since it was made.
+    staged: u64,
 }
 
 impl Model for StagedStore {
@@ -84,6 +91,8 @@ impl StagedStore {
             store: Store::new(alloc)?,
             ahead: None,
             written: 0,
+            length: 0,
+            staged: 0,
         })
     }
 
@@ -101,32 +110,40 @@ impl StagedStore {
         ensures err { OnErr result (self.new.kept ≡ self.old.kept) }
     {
         let changes = changes_in(alloc, bytes, only_changes)?;
-        let report = self.take_file(alloc, changes)?;
+        let report = self.take_file(alloc, changes, bytes.len() as u64)?;
         Ok(report)
     }
 
-    /// Delivers the changes of a file.
-    fn take_file(&mut self, alloc: Global, changes: FileChanges<'_>) -> Result<Report, AllocError>
+    /// Delivers the changes of a file of this length.
+    fn take_file(
+        &mut self,
+        alloc: Global,
+        changes: FileChanges<'_>,
+        length: u64,
+    ) -> Result<Report, AllocError>
         requires may_come { All MayCome (members_of changes) }
         requires own_hashes { HasOwnHashes (members_of changes) }
         ensures ok { IfOk result (λ report. Takes self.old.kept (members_of changes.entry) report self.new.kept) }
         ensures order { OnOk result (ComesInAnyOrder self.old.kept (members_of changes.entry) self.new.kept) }
         ensures err { OnErr result (self.new.kept ≡ self.old.kept) }
     {
-        if self.comes_at_once(changes.entries.as_slice()) {
+        if self.comes_at_once(changes.entries.as_slice(), length) {
             self.settle(alloc)?;
             return self.merge(alloc, changes);
         }
+        self.staged = self.staged.saturating_add(length);
         self.stage(alloc, changes.into_entries())
     }
 
-    /// Whether these changes are better merged into the document at once: where there is nothing yet, where one of them is
-    /// held already and so compared, and where more would be staged than the document has.
-    fn comes_at_once(&self, changes: &[(Hash, Change)]) -> bool {
+    /// Whether these changes, of a file of this length, are better merged into the document at once: where there is nothing
+    /// yet, where one of them is held already and so compared, and where more might be staged than the document has, and some
+    /// besides.
+    fn comes_at_once(&self, changes: &[(Hash, Change)], length: u64) -> bool {
         let held = size_of(self.counts());
         let staged = held.saturating_sub(self.written);
         held == 0
             || staged.saturating_add(size_of_all(changes)) > self.written.saturating_add(FEW)
+            || self.staged.saturating_add(length) > self.length.saturating_add(SHORT)
             || is_any_held(self.graph(), changes)
     }
 
@@ -140,8 +157,17 @@ impl StagedStore {
         ensures err { OnErr result (self.new.kept ≡ self.old.kept) }
     {
         let report = self.store.take_file(alloc, changes)?;
-        self.written = size_of(self.store.counts());
+        self.note_written();
         Ok(report)
+    }
+
+    /// Notes how large the document of the settled store is. Nothing is staged.
+    fn note_written(&mut self)
+        ensures { self.new ≡ self.old }
+    {
+        self.written = size_of(self.store.counts());
+        self.length = self.store.contents().len() as u64;
+        self.staged = 0;
     }
 
     /// What is kept, for changes to be staged. Without memory the store is as before.
@@ -182,10 +208,17 @@ impl StagedStore {
         let Some(ahead) = self.ahead.take() else {
             return Ok(());
         };
+        let ahead = match ahead.into_whole(alloc) {
+            Ok(store) => {
+                self.store = store;
+                return Ok(());
+            }
+            Err(ahead) => ahead,
+        };
         match ahead.merged(alloc) {
             Ok(contents) => {
                 self.store = ahead.into_store(alloc, contents);
-                self.written = size_of(self.store.counts());
+                self.note_written();
                 Ok(())
             }
             Err(error) => {

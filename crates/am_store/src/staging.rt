@@ -1,5 +1,5 @@
 //! A closed set whose last changes aren't in its document yet.
-ghost use Rattle.std.specs.Prelude.{◌≡◌, ◌++◌, List, [], IfOk, OnOk, OnErr, map, vec_items};
+ghost use Rattle.std.specs.Prelude.{◌≡◌, ◌++◌, List, [], IfOk, IfErr, OnOk, OnErr, map, vec_items};
 ghost use Rattle.am_types.specs.Members.{changes};
 ghost use Rattle.am_fits.specs.Sums.{totals_of};
 ghost use Rattle.am_graph.specs.Graphs.{nodes};
@@ -128,6 +128,33 @@ impl Staging {
         }
     }
 
+    /// The parts of the set at rest, where its document lacks nothing; else the set again.
+    pub fn into_whole(self) -> Result<Parts, Staging>
+        requires { members_of (self.old ++ self.fresh) ≡ members_of self.old }
+        ensures ok { IfOk result (ArePartsOf self.old) }
+        ensures err { IfErr result (λ set. set ≡ self) }
+    {
+        if !self.staged.is_empty() {
+            return Err(self);
+        }
+        let Staging {
+            written: _,
+            old,
+            fresh: _,
+            contents,
+            staged: _,
+            graph,
+            index,
+            totals: _,
+        } = self;
+        Ok(Parts {
+            closed: old,
+            contents,
+            graph,
+            index,
+        })
+    }
+
     /// The graph of all changes.
     pub fn graph(&self) -> &Graph
         ensures { result.now ≡ nodes (members_of (self.now.old ++ self.now.fresh)) }
@@ -179,6 +206,7 @@ impl Closed for Staging {
         self.graph.holds(hash)
     }
 
+    // Asked only where a hash that comes is held; then a delivery isn't staged, and a store compares.
     fn is_same(&self, alloc: Global, hash: &Hash, change: &Change) -> Result<bool, AllocError> {
         let contents = self.merged(alloc)?;
         let entries = listed(alloc, &self.graph, contents.as_slice())?;

@@ -1,5 +1,5 @@
 //! What a store keeps while its document lacks changes.
-ghost use Rattle.std.specs.Prelude.{◌≡◌, All, IfOk, OnOk, OnErr, vec_items};
+ghost use Rattle.std.specs.Prelude.{◌≡◌, All, IfOk, IfErr, OnOk, OnErr, vec_items};
 ghost use Rattle.am_types.specs.Deliver.{MayCome};
 ghost use Rattle.am_types.specs.Documents.{table};
 ghost use Rattle.am_types.specs.Members.{hashes};
@@ -87,6 +87,35 @@ impl Unsettled {
             counts,
             alloc,
             closed,
+        }
+    }
+
+    /// The store of all, where its document lacks nothing; else the same again.
+    pub fn into_whole(self, alloc: Global) -> Result<Store, Unsettled>
+        ensures ok { IfOk result (λ store. store ≡ self) }
+        ensures err { IfErr result (λ ahead. ahead ≡ self) }
+    {
+        let counts = self.counts();
+        let Unsettled { set, waiting } = self;
+        match set.into_whole() {
+            Ok(parts) => {
+                let Parts {
+                    closed,
+                    contents,
+                    graph,
+                    index,
+                } = parts;
+                Ok(Store {
+                    contents,
+                    graph,
+                    index,
+                    waiting,
+                    counts,
+                    alloc,
+                    closed,
+                })
+            }
+            Err(set) => Err(Unsettled { set, waiting }),
         }
     }
 
