@@ -11,15 +11,17 @@ use std::process::Abort;
 /// What a test reads, and whether both stores are read behind it.
 type Step = (&'static [u8], bool);
 
-/// Changes that join, one that is held and one that clashes, while changes are staged; one that waits; documents behind these.
+/// Changes that join, one that clashes, one that comes again while it is staged, one that waits and leaves nothing to be
+/// merged, one that is held, and documents behind staged changes.
 const STEPS: &[Step] = &[
     (FIRST, false),
     (BESIDE, false),
-    (SECOND, true),
-    (SECOND, true),
-    (LATE, false),
     (OTHER, false),
-    (BOTH, false),
+    (BESIDE, false),
+    (SECOND, true),
+    (LATE, true),
+    (SECOND, false),
+    (BOTH, true),
     (DELETED, true),
 ];
 
