@@ -2,6 +2,7 @@
 ghost use Rattle.std.specs.Prelude.{◌≡◌, ◌≢◌, ◌≤◌, ◌<◌, ◌+◌, ◌↔◌, ◌⊎◌, List as AList, length, IfOk, IfSome, IsErrOf, Some, None, Bool};
 ghost use Rattle.am_outside.specs.Counts.{Rose, RoseBy};
 ghost use Rattle.am_session.specs.declared.Request.{Request as ARequest};
+ghost use Rattle.am_session.specs.Session.{nothing_held};
 ghost use Rattle.am_session.specs.FirstFault.{Ended, is_err_at};
 ghost use Rattle.am_script.specs.Plans.{plan_of};
 ghost use Rattle.am_cli.specs.Faults.{is_failed_read, is_input_fault, is_file_fault, is_output_fault};
@@ -16,7 +17,7 @@ use am_outside::{Folder, Sink, Source};
 use am_script::{Plan, PlanFault, plan};
 use am_session::{Request, Session};
 use am_types::{List, Text};
-use std::alloc::Global;
+use std::alloc::{AllocError, Global};
 
 /// How a run ended. After `FileFault`, `OutputFault` and `NoMemory` some first commands of the script were carried out,
 /// perhaps none. Of the commands behind them the next one alone may have been begun.
@@ -61,6 +62,15 @@ impl Status {
     }
 }
 
+// A session that holds nothing, on the heap.
+fn boxed_session(alloc: Global) -> Result<Box<Session>, AllocError>
+    ensures { IfOk result (λ session. session.value ≡ nothing_held) }
+{
+    let session = Session::new(alloc)?;
+    let boxed = Box::new(alloc, session)?;
+    Ok(boxed)
+}
+
 // Carries out commands from the first state.
 fn carry_all<R: Requests, F: Folder, O: Sink>(
     alloc: Global,
@@ -81,7 +91,7 @@ fn carry_all<R: Requests, F: Folder, O: Sink>(
     ensures folder_ended { Ended (is_file_fault result) (F.calls files.old) (F.calls files.new) }
     ensures output_ended { Ended (is_output_fault result) (O.calls out.old) (O.calls out.new) }
 {
-    let Ok(mut session) = Session::new(alloc) else {
+    let Ok(mut session) = boxed_session(alloc) else {
         return Status::NoMemory;
     };
     match carry_out(alloc, stops, asked, &mut session, files, out) {
