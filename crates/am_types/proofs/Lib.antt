@@ -6,3 +6,4 @@ pub mod SameLaws
 pub mod Lists
 pub mod Permutations
 pub mod NumberLaws
+pub mod Marks

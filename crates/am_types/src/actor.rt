@@ -2,6 +2,7 @@
 ghost use Rattle.std.specs.Prelude.{◌≡◌, ◌<◌, ◌↔◌, ◌⊎◌, length, IfOk};
 ghost use Rattle.am_types.specs.Actors.{IsActor};
 
+use crate::actor_bytes::same_actor;
 use crate::known::slice_known;
 use crate::twin::Twin;
 use std::alloc::{AllocError, Global};
@@ -92,7 +93,7 @@ impl PartialEq for ActorId {
     ghost laws = { partial_equiv_from_equiv nat_list_eq_equiv };
 
     fn eq(&self, other: &Self) -> bool {
-        self.as_slice() == other.as_slice()
+        same_actor(self.as_slice(), other.as_slice())
     }
 }
 

@@ -4,6 +4,7 @@ ghost use Rattle.am_types.specs.Order.{object_cmp};
 ghost use Rattle.am_types.specs.Same.{same_id, same_key, same_object};
 ghost use Rattle.am_types.specs.Views.{id_of, key_of, object_of};
 
+use crate::actor_bytes::same_actor;
 use crate::refs::{IdRef, KeyRef, ObjRef, compare_ids};
 use std::cmp::Ordering;
 
@@ -23,7 +24,7 @@ pub fn compare_objects(a: ObjRef<'_>, b: ObjRef<'_>) -> Ordering
 pub fn same_id(a: IdRef<'_>, b: IdRef<'_>) -> bool
     ensures same { result ≡ same_id (id_of a.entry) (id_of b.entry) }
 {
-    compare_ids(a, b).is_eq()
+    a.counter == b.counter && same_actor(a.actor, b.actor)
 }
 
 /// Whether the two are one object.
@@ -42,7 +43,8 @@ pub fn same_key(a: KeyRef<'_>, b: KeyRef<'_>) -> bool
     ensures same { result ≡ same_key (key_of a.entry) (key_of b.entry) }
 {
     match (a, b) {
-        (KeyRef::Name(a), KeyRef::Name(b)) => a == b,
+        // (as bytes: texts are compared slowly)
+        (KeyRef::Name(a), KeyRef::Name(b)) => a.as_bytes() == b.as_bytes(),
         (KeyRef::Head, KeyRef::Head) => true,
         (KeyRef::Elem(a), KeyRef::Elem(b)) => same_id(a, b),
         _ => false,

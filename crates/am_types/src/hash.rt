@@ -1,6 +1,31 @@
 //! The hash of a change.
+use crate::actor_bytes::compare_first;
+use std::cmp::Ordering;
 
 /// A digest of SHA-256 (FIPS 180-4): the 32 bytes in the order in which the standard gives them. Hashes are
 /// ordered byte by byte.
-#[derive(Clone, Copy, Debug, PartialEq, Eq, PartialOrd, Ord, Hash)]
+#[derive(Clone, Copy, Debug, PartialEq, Eq, PartialOrd, Hash)]
 pub struct Hash(pub [u8; 32]);
+
+impl Ord for Hash {
+    ghost use Rattle.std.specs.Prelude.{refl};
+    ghost use Rattle.std.specs.Ordering.{nat_cmp};
+    ghost use Rattle.std.specs.Cmp.Lexicographic.{slice_cmp, lists_agrees, on_texts, texts_ties};
+
+    ghost cmp = { λ a b. slice_cmp nat_cmp a.0 b.0 };
+
+    ghost total = { on_texts (λ h. h.0) };
+
+    ghost matches_partial_cmp = { λ a b. lists_agrees (λ _ _. refl) a.0 b.0 };
+
+    ghost matches_eq = { λ a b. texts_ties a.0 b.0 };
+
+    // (most differ in the first byte)
+    fn cmp(&self, other: &Hash) -> Ordering {
+        match compare_first(&self.0, &other.0) {
+            Ordering::Less => Ordering::Less,
+            Ordering::Greater => Ordering::Greater,
+            Ordering::Equal => self.0.cmp(&other.0),
+        }
+    }
+}

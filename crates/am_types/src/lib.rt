@@ -2,6 +2,7 @@
 #![tactic(auto)]
 
 mod actor;
+mod actor_bytes;
 mod bytes;
 mod change;
 mod compare;
@@ -19,6 +20,7 @@ mod value;
 mod verdict;
 
 pub use actor::{ActorFault, ActorId};
+pub use actor_bytes::{compare_actors, same_actor};
 pub use bytes::Bytes;
 pub use change::{Change, Op};
 pub use compare::{compare_objects, same_id, same_key, same_object};

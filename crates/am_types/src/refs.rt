@@ -3,6 +3,7 @@ ghost use Rattle.std.specs.Prelude.{◌≡◌, ◌<◌, length, slice_get, Some}
 ghost use Rattle.am_types.specs.Order.{id_cmp};
 ghost use Rattle.am_types.specs.Views.{id_of, object_of, key_of, value_of, entry_of};
 
+use crate::actor_bytes::compare_actors;
 use crate::document::{Document, Entry};
 use crate::ids::{Key, ObjId, OpId};
 use crate::value::RawValue;
@@ -127,5 +128,9 @@ impl Document {
 pub fn compare_ids(a: IdRef<'_>, b: IdRef<'_>) -> Ordering
     ensures { result ≡ id_cmp (id_of a.entry) (id_of b.entry) }
 {
-    a.counter.cmp(&b.counter).then(a.actor.cmp(b.actor))
+    match a.counter.cmp(&b.counter) {
+        Ordering::Less => Ordering::Less,
+        Ordering::Equal => compare_actors(a.actor, b.actor),
+        Ordering::Greater => Ordering::Greater,
+    }
 }

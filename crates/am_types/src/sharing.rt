@@ -3,6 +3,7 @@ ghost use Rattle.std.specs.Prelude.{◌≡◌, ◌<◌, ◌↔◌, ◌⊎◌, le
 ghost use Rattle.am_types.specs.Actors.{IsActor};
 
 use crate::actor::{ActorFault, ActorId};
+use crate::actor_bytes::same_actor;
 use crate::twin::Twin;
 use std::alloc::Global;
 
@@ -21,7 +22,7 @@ fn found<'a>(kept: &'a [ActorId], bytes: &[u8]) -> Option<&'a ActorId>
     ensures { IfSome result (λ actor. actor.now ≡ bytes.now) }
 {
     for actor in kept {
-        if actor.as_slice() == bytes {
+        if same_actor(actor.as_slice(), bytes) {
             return Some(actor);
         }
     }
