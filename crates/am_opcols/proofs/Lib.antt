@@ -11,3 +11,4 @@ pub mod NamedAlone
 pub mod EachColumnLaws
 pub mod ListedLaws
 pub mod CanonicalRead
+pub mod Taken

@@ -1,5 +1,5 @@
 //! The columns of a change's operations, each found once.
-ghost use Rattle.std.specs.Prelude.{◌≡◌, ◌↔◌, IsTrue};
+ghost use Rattle.std.specs.Prelude.{◌≡◌, ◌≤◌, ◌<◌, ◌↔◌, ℕ, IsTrue};
 ghost use Rattle.am_colmeta.specs.Metadata.{listing, column_at, AreFilled};
 
 use am_colmeta::Columns;
@@ -50,26 +50,48 @@ impl<'a> Model for OpColumns<'a> {
         × (c.mark.now ≡ column_at c.columns 165) };
 }
 
+// The bytes of the column with the specification, and no bytes where it isn't listed. The columns up to it are taken off
+// the rest, so that columns that are asked for in ascending order are found in one walk.
+#[tactic(auto, using(crate::proofs::Taken::passed, crate::proofs::Taken::found_first, crate::proofs::Taken::not_before))]
+fn take<'a>(columns: &Columns<'a>, rest: &mut Columns<'a>, specification: u64) -> &'a [u8]
+    requires { (s : ℕ) → specification ≤ s → column_at rest.old s ≡ column_at columns.now s }
+    ensures found { result.now ≡ column_at columns.now specification }
+    ensures left { (s : ℕ) → specification < s → column_at rest.new s ≡ column_at columns.now s }
+{
+    let mut ahead = rest.again();
+    while let Some((at, bytes)) = ahead.next() {
+        if at > specification {
+            return &[];
+        }
+        *rest = ahead.again();
+        if at == specification {
+            return bytes;
+        }
+    }
+    &[]
+}
+
 impl<'a> OpColumns<'a> {
     /// These columns.
     pub fn of(columns: Columns<'a>) -> Self
         ensures { result ≡ columns.entry }
     {
+        let mut rest = columns.again();
         OpColumns {
-            object_actor: columns.find(1),
-            object_counter: columns.find(2),
-            key_actor: columns.find(17),
-            key_counter: columns.find(19),
-            key_name: columns.find(21),
-            insert: columns.find(52),
-            action: columns.find(66),
-            numbers: columns.find(86),
-            raw: columns.find(87),
-            group: columns.find(112),
-            pred_actor: columns.find(113),
-            pred_counter: columns.find(115),
-            expand: columns.find(148),
-            mark: columns.find(165),
+            object_actor: take(&columns, &mut rest, 1),
+            object_counter: take(&columns, &mut rest, 2),
+            key_actor: take(&columns, &mut rest, 17),
+            key_counter: take(&columns, &mut rest, 19),
+            key_name: take(&columns, &mut rest, 21),
+            insert: take(&columns, &mut rest, 52),
+            action: take(&columns, &mut rest, 66),
+            numbers: take(&columns, &mut rest, 86),
+            raw: take(&columns, &mut rest, 87),
+            group: take(&columns, &mut rest, 112),
+            pred_actor: take(&columns, &mut rest, 113),
+            pred_counter: take(&columns, &mut rest, 115),
+            expand: take(&columns, &mut rest, 148),
+            mark: take(&columns, &mut rest, 165),
             columns,
         }
     }
