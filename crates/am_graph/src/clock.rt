@@ -93,6 +93,14 @@ impl Clock {
     {
         reach_of(&self.authors, self.table.as_slice(), actor).seq
     }
+
+    /// The counter below which the clock covers the ids of the actor, and at which it covers none: 0 where the actor has no
+    /// change. Who asks of many ids of one actor asks for this once.
+    pub fn end(&self, actor: &[u8]) -> u64
+        ensures clock { result ≡ (reach_of self.now actor.now).end }
+    {
+        reach_of(&self.authors, self.table.as_slice(), actor).end
+    }
 }
 
 impl<'a> Reached<'a> {
@@ -108,6 +116,14 @@ impl<'a> Reached<'a> {
         ensures clock { result ≡ (reach_of self.now actor.now).seq }
     {
         reach_of(self.authors, self.table.as_slice(), actor).seq
+    }
+
+    /// The counter below which the clock covers the ids of the actor, and at which it covers none: 0 where the actor has no
+    /// change. Who asks of many ids of one actor asks for this once.
+    pub fn end(&self, actor: &[u8]) -> u64
+        ensures clock { result ≡ (reach_of self.now actor.now).end }
+    {
+        reach_of(self.authors, self.table.as_slice(), actor).end
     }
 }
 
