@@ -6,10 +6,9 @@ ghost use Rattle.am_places.specs.Sound.{HasRoom};
 ghost use Rattle.am_merge.specs.Walk.{beginning, starts};
 ghost use Rattle.am_merge.specs.Stacks.{stacked};
 
-use crate::compare::compare_ids;
 use crate::starts::{Start, sort_starts};
 use am_places::Numbered;
-use am_types::{Change, Key};
+use am_types::{Change, Key, compare_ids};
 use std::alloc::{AllocError, Global};
 use std::cmp::Ordering;
 

@@ -17,13 +17,12 @@ ghost use Rattle.am_merge.specs.Naming.{named_of};
 ghost use Rattle.am_merge.specs.Plans.{Take, carried};
 ghost use Rattle.am_merge.specs.Stops.{copies, event_of, events_of};
 
-use crate::compare::compare_ids;
 use crate::naming::Naming;
 use crate::stops::Stop;
 use am_doccols::{RowCursor, RowFields, RowRef, RowWriter, SuccCursor};
 use am_fields::text_in;
 use am_places::Numbered;
-use am_types::{ActorId, IdRef};
+use am_types::{ActorId, IdRef, compare_ids};
 use std::alloc::{AllocError, Global};
 
 // The fields of the row of an operation.

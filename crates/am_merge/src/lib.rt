@@ -4,7 +4,6 @@
 mod actors;
 mod added;
 mod carry;
-mod compare;
 mod counters;
 mod documents;
 mod front;

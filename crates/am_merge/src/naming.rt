@@ -10,10 +10,9 @@ ghost use Rattle.am_merge.specs.Naming.{IsSeam, Named, is_named, key_cmp, named_
 ghost use Rattle.am_merge.specs.Walk.{gives_value, hanging, inserts};
 ghost use Rattle.am_merge.specs.declared.naming.Naming.{Naming as ANaming};
 
-use crate::compare::{compare_actors, compare_objects};
 use crate::guide::Guide;
 use am_places::Numbered;
-use am_types::{IdRef, Key, ObjRef};
+use am_types::{IdRef, Key, ObjRef, compare_actors, compare_objects};
 use std::alloc::{AllocError, Global};
 use std::cmp::Ordering;
 

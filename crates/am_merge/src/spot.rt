@@ -7,9 +7,8 @@ ghost use Rattle.am_places.specs.Numbered.{operation_of};
 ghost use Rattle.am_merge.specs.Spots.{spot_in};
 ghost use Rattle.am_merge.specs.Walk.{falling_id, id_turn_cmp, lane_cmp, lane_of, name_in, rising_id, spot_cmp, spot_of};
 
-use crate::compare::{compare_ids, compare_objects};
 use am_places::Numbered;
-use am_types::{IdRef, KeyRef, ObjRef};
+use am_types::{IdRef, KeyRef, ObjRef, compare_ids, compare_objects};
 use std::cmp::Ordering;
 
 /// What the walk compares of a row or of an operation, lent.

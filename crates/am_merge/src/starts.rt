@@ -5,11 +5,10 @@ ghost use Rattle.am_types.specs.Order.{bytes_cmp, sorted_by};
 ghost use Rattle.am_places.specs.Numbered.{operation_of};
 ghost use Rattle.am_merge.specs.Walk.{by_spot, id_turn_cmp, lane_cmp, lane_of, name_in, spot_of};
 
-use crate::compare::compare_objects;
 use crate::front::{compare_behind, front};
 use crate::spot::{compare_turns, spot};
 use am_places::Numbered;
-use am_types::{Key, slice_known};
+use am_types::{Key, compare_objects, slice_known};
 use std::alloc::AllocError;
 use std::cmp::Ordering;
 use std::marker::Model;

@@ -1,7 +1,6 @@
 pub mod Authors
 pub mod Groups
 pub mod Deduped
-pub mod Compared
 pub mod Preds
 pub mod Ordered
 pub mod Bounds

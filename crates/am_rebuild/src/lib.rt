@@ -9,7 +9,6 @@ mod document;
 mod fault;
 mod gathered;
 mod group;
-mod ids;
 mod joining;
 mod judgement;
 mod lasts;

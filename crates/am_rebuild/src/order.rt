@@ -6,9 +6,8 @@ ghost use Rattle.am_histories.specs.RowOrder.{slot_may_come, may_open, by_object
 ghost use Rattle.am_histories.specs.OnePass.{moved, path_into, one_pass};
 ghost use Rattle.am_rebuild.specs.Stops.{path_of};
 
-use crate::ids::{compare, compare_objects, is_same_key};
 use crate::path::{StopRef, go_back, is_going, put, restart};
-use am_types::{Key, KeyRef, Row};
+use am_types::{Key, KeyRef, Row, compare_ids, compare_objects, same_key};
 use std::alloc::{AllocError, Global};
 use std::cmp::Ordering;
 
@@ -46,8 +45,8 @@ fn follows_in(last: &Row, row: &Row) -> bool
     ensures { result ≡ may_come_in last.now row.now }
 {
     let (before, behind) = (slot(last), slot(row));
-    if is_same_key(before, behind) {
-        compare(last.id.lend(), row.id.lend()).is_lt()
+    if same_key(before, behind) {
+        compare_ids(last.id.lend(), row.id.lend()).is_lt()
     } else {
         slot_follows(before, behind) && opens(row)
     }
@@ -80,7 +79,7 @@ fn take_row<'a>(stack: &mut Vec<StopRef<'a>>, last: &Row, row: &'a Row) -> Resul
     ensures may { IfOk result (λ taken. taken ≡ may_come last.now row.now) }
     ensures path { IfOk result (λ taken. taken ≡ true → path_of stack.new.items ≡ moved (path_into last.now (path_of stack.old.items) row.now) row.now) }
 {
-    let objects = compare_objects(&last.obj, &row.obj);
+    let objects = compare_objects(last.obj.lend(), row.obj.lend());
     if !follows(objects, last, row) {
         return Ok(false);
     }

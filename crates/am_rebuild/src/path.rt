@@ -4,8 +4,7 @@ ghost use Rattle.am_types.specs.Views.{id_of, key_of};
 ghost use Rattle.am_histories.specs.Walks.{back_to, front, is_on, may_follow, put_on};
 ghost use Rattle.am_rebuild.specs.Stops.{path_of};
 
-use crate::ids::{compare, is_same_key};
-use am_types::{IdRef, KeyRef};
+use am_types::{IdRef, KeyRef, compare_ids, same_key};
 use std::alloc::AllocError;
 
 /// A place on the path, and the element that came last behind it.
@@ -19,7 +18,7 @@ fn is_open(last: Option<IdRef<'_>>, id: IdRef<'_>) -> bool
     ensures { result ≡ may_follow (option_map id_of last.entry) (id_of id.entry) }
 {
     match last {
-        Some(last) => compare(id, last).is_lt(),
+        Some(last) => compare_ids(id, last).is_lt(),
         None => true,
     }
 }
@@ -31,7 +30,7 @@ fn depth_of(stack: &[StopRef<'_>], key: KeyRef<'_>) -> usize
 {
     let mut depth = stack.len();
     while depth > 0 {
-        if is_same_key(stack[depth - 1].at, key) {
+        if same_key(stack[depth - 1].at, key) {
             return depth;
         }
         depth -= 1;

@@ -8,10 +8,9 @@ ghost use Rattle.am_rebuild.specs.Mentions.{AreSortedMentions};
 ghost use Rattle.am_rebuild.specs.Told.{is_last, ids_behind, differ_from, TellsIds, TellsRest};
 
 use crate::group::DELETION;
-use crate::ids::{compare, is_same};
 use crate::mention::Named;
 use crate::order::rows_in_order;
-use am_types::{IdRef, OpId, Row};
+use am_types::{IdRef, OpId, Row, compare_ids, same_id};
 use std::alloc::{AllocError, Global};
 use std::cmp::Ordering;
 
@@ -20,7 +19,7 @@ fn is_last(last: Option<IdRef<'_>>, id: IdRef<'_>) -> bool
 {
     match last {
         None => false,
-        Some(last) => is_same(last, id),
+        Some(last) => same_id(last, id),
     }
 }
 
@@ -60,7 +59,7 @@ fn ids_ascend(ids: &[OpId]) -> bool
     ensures { IsTrue result ↔ Ascends id_cmp ids.now }
 {
     for i in 1..ids.len() {
-        if compare(ids[i - 1].lend(), ids[i].lend()) != Ordering::Less {
+        if compare_ids(ids[i - 1].lend(), ids[i].lend()) != Ordering::Less {
             return false;
         }
     }
