@@ -2,8 +2,9 @@
 ghost use Rattle.std.specs.Prelude.{◌≡◌, ◌<◌, ◌↔◌, ◌⊎◌, length, IfOk};
 ghost use Rattle.am_types.specs.Actors.{IsActor};
 
-use crate::actor_bytes::same_actor;
+use crate::byte_strings::same_actor;
 use crate::known::slice_known;
+use crate::limits::LONGEST_ACTOR;
 use crate::twin::Twin;
 use std::alloc::{AllocError, Global};
 use std::marker::Model;
@@ -59,7 +60,7 @@ impl ActorId {
         ensures length { (result ≡ Err ActorFault.Length) ↔ ((length bytes.now ≡ 0) ⊎ (1024 < length bytes.now)) }
     {
         slice_known(bytes);
-        if bytes.is_empty() || bytes.len() > 1024 {
+        if bytes.is_empty() || bytes.len() > LONGEST_ACTOR {
             return Err(ActorFault::Length);
         }
         let shared = RcSlice::from_slice(alloc, bytes)?;

@@ -4,7 +4,7 @@ ghost use Rattle.am_types.specs.Order.{object_cmp};
 ghost use Rattle.am_types.specs.Same.{same_id, same_key, same_object};
 ghost use Rattle.am_types.specs.Views.{id_of, key_of, object_of};
 
-use crate::actor_bytes::same_actor;
+use crate::byte_strings::{same_actor, same_bytes};
 use crate::refs::{IdRef, KeyRef, ObjRef, compare_ids};
 use std::cmp::Ordering;
 
@@ -43,8 +43,7 @@ pub fn same_key(a: KeyRef<'_>, b: KeyRef<'_>) -> bool
     ensures same { result ≡ same_key (key_of a.entry) (key_of b.entry) }
 {
     match (a, b) {
-        // (as bytes: texts are compared slowly)
-        (KeyRef::Name(a), KeyRef::Name(b)) => a.as_bytes() == b.as_bytes(),
+        (KeyRef::Name(a), KeyRef::Name(b)) => same_bytes(a.as_bytes(), b.as_bytes()),
         (KeyRef::Head, KeyRef::Head) => true,
         (KeyRef::Elem(a), KeyRef::Elem(b)) => same_id(a, b),
         _ => false,

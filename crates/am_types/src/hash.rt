@@ -1,5 +1,5 @@
 //! The hash of a change.
-use crate::actor_bytes::compare_first;
+use crate::byte_strings::compare_bytes;
 use std::cmp::Ordering;
 
 /// A digest of SHA-256 (FIPS 180-4): the 32 bytes in the order in which the standard gives them. Hashes are
@@ -20,12 +20,7 @@ impl Ord for Hash {
 
     ghost matches_eq = { λ a b. texts_ties a.0 b.0 };
 
-    // (most differ in the first byte)
     fn cmp(&self, other: &Hash) -> Ordering {
-        match compare_first(&self.0, &other.0) {
-            Ordering::Less => Ordering::Less,
-            Ordering::Greater => Ordering::Greater,
-            Ordering::Equal => self.0.cmp(&other.0),
-        }
+        compare_bytes(&self.0, &other.0)
     }
 }

@@ -2,7 +2,7 @@
 #![tactic(auto)]
 
 mod actor;
-mod actor_bytes;
+mod byte_strings;
 mod bytes;
 mod change;
 mod compare;
@@ -10,6 +10,7 @@ mod document;
 mod hash;
 mod ids;
 mod known;
+mod limits;
 mod list;
 mod owned;
 mod refs;
@@ -20,7 +21,7 @@ mod value;
 mod verdict;
 
 pub use actor::{ActorFault, ActorId};
-pub use actor_bytes::{compare_actors, same_actor};
+pub use byte_strings::{compare_actors, compare_bytes, same_actor, same_bytes};
 pub use bytes::Bytes;
 pub use change::{Change, Op};
 pub use compare::{compare_objects, same_id, same_key, same_object};
@@ -28,6 +29,7 @@ pub use document::{Document, Entry, Meta, Row, Table};
 pub use hash::Hash;
 pub use ids::{Key, ObjId, OpId};
 pub use known::{hash_known, hashes_known, slice_known, str_known};
+pub use limits::{GREATEST_COUNTER, LONGEST_ACTOR, MOST_CHANGES, MOST_OPERATIONS};
 pub use list::List;
 pub use refs::{EntryRef, IdRef, KeyRef, ObjRef, ValueRef, compare_ids};
 pub use sharing::SharedActors;

@@ -3,7 +3,7 @@ ghost use Rattle.std.specs.Prelude.{◌≡◌, ◌<◌, length, slice_get, Some}
 ghost use Rattle.am_types.specs.Order.{id_cmp};
 ghost use Rattle.am_types.specs.Views.{id_of, object_of, key_of, value_of, entry_of};
 
-use crate::actor_bytes::compare_actors;
+use crate::byte_strings::compare_actors;
 use crate::document::{Document, Entry};
 use crate::ids::{Key, ObjId, OpId};
 use crate::value::RawValue;

@@ -3,7 +3,7 @@ ghost use Rattle.std.specs.Prelude.{◌≡◌, ◌<◌, ◌↔◌, ◌⊎◌, le
 ghost use Rattle.am_types.specs.Actors.{IsActor};
 
 use crate::actor::{ActorFault, ActorId};
-use crate::actor_bytes::same_actor;
+use crate::byte_strings::same_actor;
 use crate::twin::Twin;
 use std::alloc::Global;
 

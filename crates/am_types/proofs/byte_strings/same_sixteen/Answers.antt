@@ -5,7 +5,7 @@ use lib.Lanes.{mask_l, zip2}
 use mir.Syntax.{w8}
 use Rattle.am_types.specs.Same.{same_bytes}
 use Rattle.am_types.proofs.Marks.{unmarked}
-use Rattle.am_types.proofs.actor_bytes.same_sixteen.Goals as goal
+use Rattle.am_types.proofs.byte_strings.same_sixteen.Goals as goal
 
 abbrev differ : ℕ → ℕ → Bool
 differ x y = not (eqb x y)
