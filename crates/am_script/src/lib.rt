@@ -14,3 +14,4 @@ pub use fault::{LineFault, PlanFault};
 pub use forms::plan;
 pub use line::read_line;
 pub use planned::Plan;
+pub use words::GREATEST_NUMBER;

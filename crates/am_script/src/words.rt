@@ -14,8 +14,8 @@ use std::alloc::{AllocError, Global};
 // The longest name of a file, in bytes.
 const LONGEST_NAME: usize = 1024;
 
-// The greatest number that a word names.
-const GREATEST_NUMBER: u64 = 100_000;
+/// The greatest number that a word names.
+pub const GREATEST_NUMBER: u64 = 100_000;
 
 // Whether all bytes print, and none is a space.
 fn all_print(bytes: &[u8]) -> bool

@@ -8,12 +8,10 @@ use crate::replies::{push_number, refusal, refuses};
 use am_gen::made;
 use am_json::Form;
 use am_laws::listing_is_free;
+use am_script::GREATEST_NUMBER;
 use am_store::{ReadFault, Store, documents_are_read_back};
 use am_types::Bytes;
 use std::alloc::{AllocError, Global};
-
-// The most changes that are generated.
-const MOST: u64 = 100_000;
 
 // A store of generated changes alone, however it lists them.
 fn generated(alloc: Global, count: u64) -> Result<Store, AllocError>
@@ -104,7 +102,7 @@ fn measured_changes(alloc: Global, count: u64) -> Result<Bytes, AllocError>
 pub fn bench(alloc: Global, count: u64) -> Result<Bytes, AllocError>
     ensures { IfOk result (λ reply. reply ≡ bench_text count) }
 {
-    if count > MOST {
+    if count > GREATEST_NUMBER {
         return refusal(alloc, "syntax");
     }
     let reply = measured_changes(alloc, count)?;

@@ -33,8 +33,8 @@ const FEW: u64 = 4096;
 const SHORT: u64 = 1 << 20;
 
 /// A store to which small deliveries come one after another. The changes that join are staged, and the document is made of
-/// many of them at once, at the latest when the store is settled: before it is read. Contracts see the two lists of changes of a store, and whether
-/// it is settled.
+/// many of them at once, at the latest when the store is settled: before it is read. Contracts see the two lists of changes
+/// of a store, and whether it is settled.
 #[derive(Drop)]
 pub struct StagedStore {
     // The store of all, where nothing is staged. Else it is of no use.
