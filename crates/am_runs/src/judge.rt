@@ -9,6 +9,7 @@ ghost use Rattle.am_runs.specs.Positions.{sight_in};
 use crate::item::Item;
 use crate::pending::is_same;
 use crate::place::{Kind, opened};
+use am_types::same_bytes;
 
 // A run that begins the bytes.
 #[derive(Clone, Copy)]
@@ -23,7 +24,7 @@ struct Seen<'a> {
 fn are_equal(a: &[u8], b: &[u8]) -> bool
     ensures { result ≡ bytes_eq a.now b.now }
 {
-    a == b
+    same_bytes(a, b)
 }
 
 // The item that begins the bytes, unless it equals the one before it.

@@ -9,6 +9,7 @@ ghost use Rattle.am_runs.specs.Pending.{pending_bytes, Holds, IsAlike};
 
 use crate::item::Item;
 use am_leb::{push_i, push_u};
+use am_types::same_bytes;
 use std::alloc::AllocError;
 
 #[derive(Clone, Copy, Debug, PartialEq, Eq)]
@@ -90,7 +91,7 @@ fn put_null<K: Item>(done: &mut Vec<u8>, p: &mut Pending) -> Result<(), AllocErr
 pub fn is_same(a: &[u8], b: &[u8]) -> bool
     ensures { IsTrue result ↔ (a.now ≡ b.now) }
 {
-    a == b
+    same_bytes(a, b)
 }
 
 // Begins a literal run with the item.
