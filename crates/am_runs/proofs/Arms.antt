@@ -47,7 +47,7 @@ arm_repeat_more end done count front last front' list h =
       list_is = grown list _ _ (expansion (Repeat (suc count) last)) (Some last) l (expansion-repeat count last);
     }
 
-all_push : (end : List ℕ → Option ℕ) (items : List (List ℕ)) (x : List ℕ) → AllByRecursion (IsItem end) items → IsItem end x → AllByRecursion (IsItem end) (items ++ x ∷ [])
+pub all_push : (end : List ℕ → Option ℕ) (items : List (List ℕ)) (x : List ℕ) → AllByRecursion (IsItem end) items → IsItem end x → AllByRecursion (IsItem end) (items ++ x ∷ [])
 all_push end [] x h i = (i, tt)
 all_push end (y ∷ items) x h i = (h.0, all_push end items x h.1 i)
 

@@ -59,12 +59,12 @@ literal-step : (end : List ℕ → Option ℕ) (p : Place) → p.kind ≡ kinds.
 literal-step end p e zero = refl
 literal-step end p e (suc n) = ap (λ k. entry_by end k n p.item p.rest) e
 
-literal-holds : (end : List ℕ → Option ℕ) (n : ℕ) (p : Place) → p.kind ≡ kinds.Literal → HasEntries end n p → HasEntries end n (in_literal p.count p.rest)
+pub literal-holds : (end : List ℕ → Option ℕ) (n : ℕ) (p : Place) → p.kind ≡ kinds.Literal → HasEntries end n p → HasEntries end n (in_literal p.count p.rest)
 unfolding HasEntries
 literal-holds end zero p e h = h
 literal-holds end (suc n) p e h = subst (holds_behind (HasEntries end n)) (literal-step end p e p.count) h
 
-literal-entries : (end : List ℕ → Option ℕ) (n : ℕ) (p : Place) → p.kind ≡ kinds.Literal → entries end n p ≡ entries end n (in_literal p.count p.rest)
+pub literal-entries : (end : List ℕ → Option ℕ) (n : ℕ) (p : Place) → p.kind ≡ kinds.Literal → entries end n p ≡ entries end n (in_literal p.count p.rest)
 unfolding entries
 literal-entries end zero p e = refl
 literal-entries end (suc n) p e = ap (listed (entries end n)) (literal-step end p e p.count)

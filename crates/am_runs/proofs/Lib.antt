@@ -25,3 +25,4 @@ pub mod Skimmed
 pub mod Alike
 pub mod Telling
 pub mod Parts
+pub mod Neighbours

@@ -76,7 +76,7 @@ last_of-push (x ∷ z ∷ items) y = last_of-push (z ∷ items) y
 pub null_after_literal : (front : List (List ℕ)) (y : List ℕ) (done : List Run) → Chain (Literal (front ++ y ∷ [])) done → Chain (Nulls 1) (Literal (front ++ y ∷ []) ∷ done)
 null_after_literal front y done c = (tt, ((λ e. (let q : Some y ≡ None = sym (last_of-push front y) ∙ e in cc)), λ a. a), c)
 
-neighbours_push : (front : List (List ℕ)) (y x : List ℕ) → y ≢ x → NoEqualNeighbours (front ++ y ∷ []) → NoEqualNeighbours ((front ++ y ∷ []) ++ x ∷ [])
+pub neighbours_push : (front : List (List ℕ)) (y x : List ℕ) → y ≢ x → NoEqualNeighbours (front ++ y ∷ []) → NoEqualNeighbours ((front ++ y ∷ []) ++ x ∷ [])
 neighbours_push [] y x h n = (h, tt)
 neighbours_push (a ∷ []) y x h n = (n.0, (h, tt))
 neighbours_push (a ∷ b ∷ front) y x h n = (n.0, neighbours_push (b ∷ front) y x h n.1)

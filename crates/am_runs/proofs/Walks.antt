@@ -86,7 +86,7 @@ nulls_walk : (end : List ℕ → Option ℕ) (n : ℕ) (rest : List ℕ) → Wal
 nulls_walk end zero rest = Walks-between end (record { kind = kinds.Nulls; count = 0; item = []; rest = rest }) refl
 nulls_walk end (suc n) rest = Walks-cons end _ (record { kind = kinds.Nulls; count = n; item = []; rest = rest }) _ None _ refl (nulls_walk end n rest)
 
-item_step : (end : List ℕ → Option ℕ) → ReadsItems end → (n : ℕ) (x tail rest : List ℕ) → IsItem end x → literal_step n ((x ++ tail) ++ rest) (end ((x ++ tail) ++ rest)) ≡ Some (Some x, record { kind = kinds.Literal; count = n; item = []; rest = tail ++ rest })
+pub item_step : (end : List ℕ → Option ℕ) → ReadsItems end → (n : ℕ) (x tail rest : List ℕ) → IsItem end x → literal_step n ((x ++ tail) ++ rest) (end ((x ++ tail) ++ rest)) ≡ Some (Some x, record { kind = kinds.Literal; count = n; item = []; rest = tail ++ rest })
 item_step end reads n x tail rest h =
     ap (λ b. literal_step n b (end b)) (append_assoc x tail rest)
     ∙ ap (literal_step n (x ++ (tail ++ rest))) (reads.again x (tail ++ rest) h)

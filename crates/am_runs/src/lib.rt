@@ -1,6 +1,7 @@
 //! Columns of runs: a list of items and nulls in runs, each a repeated item, a row of items, or nulls (Automerge Binary Document Format, run length encoding).
 #![tactic(auto)]
 
+mod apart;
 mod counters;
 mod cursor;
 mod fault;

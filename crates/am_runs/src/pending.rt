@@ -1,12 +1,14 @@
 //! The run that a writer has not written yet.
-ghost use Rattle.std.specs.Prelude.{◌≡◌, ◌<◌, ◌^◌, ◌++◌, ◌∷◌, [], ◌↔◌, ℕ, List, Option, Some, None, length, IfOk, IfSome, OnOk, IsTrue};
+ghost use Rattle.std.specs.Prelude.{◌≡◌, ◌+◌, ◌<◌, ◌≤◌, ◌^◌, ◌++◌, ◌∷◌, [], ◌↔◌, ℕ, List, Option, Some, None, length, map, IfOk, IfSome, OnOk, IsTrue};
 ghost use Rattle.std.specs.Option.{option_copied};
 ghost use Rattle.am_leb.specs.Leb.{leb};
 ghost use Rattle.am_leb.specs.Reading.{from_magnitude};
+ghost use Rattle.am_runs.specs.Apart.{AreApart};
 ghost use Rattle.am_runs.specs.Items.{IsItem};
 ghost use Rattle.am_runs.specs.Canonical.{Canon};
 ghost use Rattle.am_runs.specs.Pending.{pending_bytes, Holds, IsAlike};
 
+use crate::apart::{Apart, found_apart};
 use crate::item::Item;
 use am_leb::{push_i, push_u};
 use am_types::same_bytes;
@@ -202,6 +204,41 @@ pub fn is_alike(p: &Pending, entry: Option<&[u8]>) -> bool
             _ => false,
         },
     }
+}
+
+/// The items that begin the bytes, at most so many, as far as each is unlike the one before it, where a literal run is
+/// pending and the first is unlike its last.
+pub fn apart_from<'a, K: Item>(p: &Pending, bytes: &'a [u8], most: u64) -> Option<Apart<'a>>
+    requires { 0 < most }
+    ensures { IfSome result (λ r. (p.now.kind ≡ PendingKind.Literal) × (r.count ≤ most)
+        × ((start : List (List ℕ)) × AreApart K.end_of p.now.last.items start r.count r.size r.last.now bytes.now r.rest.now)) }
+{
+    match p.kind {
+        PendingKind::Literal => found_apart::<K>(&p.last, bytes, most),
+        _ => None,
+    }
+}
+
+/// Puts these items of the bytes behind a literal run.
+pub fn extend_apart<K: Item>(
+    p: &mut Pending,
+    found: Apart<'_>,
+    bytes: &[u8],
+    done: &Vec<u8>,
+) -> Result<(), AllocError>
+    requires room { p.old.count + found.count < 2 ^ 62 }
+    requires kind { p.old.kind ≡ PendingKind.Literal }
+    requires apart { (start : List (List ℕ)) × AreApart K.end_of p.old.last.items start found.count found.size found.last.now bytes.now found.rest.now }
+    ensures { OnOk result ((start : List (List ℕ)) (list : List (Option (List ℕ))) → AreApart K.end_of p.old.last.items start found.entry.count found.entry.size found.entry.last.now bytes.now found.entry.rest.now
+        → Holds K.end_of done.now.items p.old.kind p.old.count p.old.front.items p.old.last.items list
+        → Holds K.end_of done.now.items p.new.kind p.new.count p.new.front.items p.new.last.items (list ++ map Some (start ++ found.entry.last.now ∷ []))) }
+{
+    p.front.extend_from_slice(&p.last)?;
+    p.front.extend_from_slice(&bytes[..found.size])?;
+    p.count += found.count;
+    p.last.clear();
+    p.last.extend_from_slice(found.last)?;
+    Ok(())
 }
 
 pub fn ended<K: Item>(done: Vec<u8>, pending: Pending) -> Result<Vec<u8>, AllocError>

@@ -1,0 +1,160 @@
+-- Items that are unlike their neighbours, pushed at once: what is found in bytes, what the pending run becomes, and where a
+-- cursor stands behind them.
+use Rattle.std.proofs.Common.{◌≡◌, ℕ, suc, zero, ◌+◌, ◌-◌, ◌^◌, ◌<◌, ◌≤◌, List, [], ◌∷◌, ◌++◌, length, take, drop, map, Bool, true, false, cond, Option, Some, None, refl, sym, ap, ◌∙◌, subst, arith, append_assoc, length-append}
+use Rattle.std.specs.Prelude.{replicate}
+use Rattle.std.specs.Option.{IfSome, IfNone}
+use Rattle.std.specs.List.{flat_map, AllByRecursion}
+use Rattle.std.specs.Str.{bytes_eq}
+use Rattle.std.proofs.lemmas.List.{append-nil, take_at, length-replicate, length-map, take-append-drop}
+use Rattle.am_runs.specs.declared.pending.PendingKind.{PendingKind}
+use Rattle.am_runs.specs.declared.pending.PendingKind.TheVariants as pending
+use Rattle.am_runs.specs.declared.place.Kind.TheVariants as kinds
+use Rattle.am_runs.specs.Items.{IsItem, ReadsItems}
+use Rattle.am_runs.specs.Canonical.{NoEqualNeighbours}
+use Rattle.am_runs.specs.Pending.{Holds, written_so_far, IsWriting}
+use Rattle.am_runs.specs.Apart.{AreApart, Took}
+use Rattle.am_runs.specs.Walking.{Place, entries, HasEntries}
+use Rattle.am_runs.specs.Counters.{in_literal}
+use Rattle.am_runs.proofs.Opening.{joined}
+use Rattle.am_runs.proofs.Holding.{joined-push}
+use Rattle.am_runs.proofs.Pushing.{neighbours_push}
+use Rattle.am_runs.proofs.Arms.{all_push, arm_literal_more}
+use Rattle.am_runs.proofs.Finishing.{shown, open_writing, in_value}
+use Rattle.am_runs.proofs.Alike.{room_for}
+use Rattle.am_runs.proofs.Entries.{entries-step, HasEntries-step, entries-none}
+use Rattle.am_runs.proofs.Walks.{item_step}
+use Rattle.am_runs.proofs.Counted.{literal-holds, literal-entries, count-le}
+
+-- ---- what begins the bytes
+
+pub first_apart : (end : List ℕ → Option ℕ) (before x bytes rest : List ℕ) → IsItem end x → (before ≡ x → ⊥) → bytes ≡ x ++ rest → AreApart end before [] 1 0 x bytes rest
+first_apart end before x bytes rest i d e = record { each = (i, tt); apart = (d, tt); count_is = refl; size_is = refl; bytes_are = e }
+
+pub more_apart : (end : List ℕ → Option ℕ) (before : List ℕ) (start : List (List ℕ)) (count size : ℕ) (last bytes rest x behind : List ℕ) → AreApart end before start count size last bytes rest → IsItem end x → (last ≡ x → ⊥) → rest ≡ x ++ behind
+    → AreApart end before (start ++ last ∷ []) (count + 1) (size + length last) x bytes behind
+more_apart end before start count size last bytes rest x behind a i d e = record {
+  each = all_push end (start ++ last ∷ []) x a.each i;
+  apart = neighbours_push (before ∷ start) last x d a.apart;
+  count_is = omega (arith, a.count_is, length-append start (last ∷ []));
+  size_is = omega (arith, a.size_is, ap length (joined-push start last), length-append (joined start) last);
+  bytes_are = a.bytes_are ∙ ap (λ r. joined start ++ (last ++ r)) e ∙ sym (append_assoc (joined start) last (x ++ behind)) ∙ ap (λ f. f ++ (x ++ behind)) (sym (joined-push start last));
+}
+
+-- how much of the bytes they take
+pub apart_within : (end : List ℕ → Option ℕ) (before : List ℕ) (start : List (List ℕ)) (count size : ℕ) (last bytes rest : List ℕ) → AreApart end before start count size last bytes rest → size + length last ≤ length bytes
+apart_within end before start count size last bytes rest a = omega (arith, a.size_is, ap length a.bytes_are, length-append (joined start) (last ++ rest), length-append last rest)
+
+pub apart_front : (end : List ℕ → Option ℕ) (before : List ℕ) (start : List (List ℕ)) (count size : ℕ) (last bytes rest : List ℕ) → AreApart end before start count size last bytes rest → take size bytes ≡ joined start
+apart_front end before start count size last bytes rest a = ap (take size) a.bytes_are ∙ take_at (joined start) (last ++ rest) size (sym a.size_is)
+
+pub apart_items : (end : List ℕ → Option ℕ) (before : List ℕ) (start : List (List ℕ)) (count size : ℕ) (last bytes rest : List ℕ) → AreApart end before start count size last bytes rest → bytes ≡ joined (start ++ last ∷ []) ++ rest
+apart_items end before start count size last bytes rest a = a.bytes_are ∙ sym (append_assoc (joined start) last rest) ∙ ap (λ f. f ++ rest) (sym (joined-push start last))
+
+-- ---- the pending run
+
+arm_apart : (end : List ℕ → Option ℕ) (done : List ℕ) (start : List (List ℕ)) (count : ℕ) (front before last : List ℕ) (list : List (Option (List ℕ))) → AllByRecursion (IsItem end) (start ++ last ∷ []) → NoEqualNeighbours (before ∷ (start ++ last ∷ [])) → Holds end done pending.Literal count front before list
+    → Holds end done pending.Literal (suc (count + length start)) ((front ++ before) ++ joined start) last (list ++ map Some (start ++ last ∷ []))
+arm_apart end done [] count front before last list i n h =
+    subst (λ m. Holds end done pending.Literal (suc m) ((front ++ before) ++ []) last (list ++ Some last ∷ [])) (let q : count ≡ count + 0 = omega arith in q)
+    (subst (λ f. Holds end done pending.Literal (suc count) f last (list ++ Some last ∷ [])) (sym (append-nil (front ++ before)))
+    (arm_literal_more end done count front before last list n.0 i.0 h))
+arm_apart end done (x ∷ start) count front before last list i n h =
+    subst (λ m. Holds end done pending.Literal (suc m) ((front ++ before) ++ joined (x ∷ start)) last (list ++ map Some (x ∷ (start ++ last ∷ [])))) (let q : suc count + length start ≡ count + suc (length start) = omega arith in q)
+    (subst (λ f. Holds end done pending.Literal (suc (suc count + length start)) f last (list ++ map Some (x ∷ (start ++ last ∷ [])))) (append_assoc (front ++ before) x (joined start))
+    (subst (λ l. Holds end done pending.Literal (suc (suc count + length start)) (((front ++ before) ++ x) ++ joined start) last l) (append_assoc list (Some x ∷ []) (map Some (start ++ last ∷ [])))
+    (arm_apart end done start (suc count) (front ++ before) x last (list ++ Some x ∷ []) i.1 n.1 (arm_literal_more end done count front before x list n.0 i.0 h))))
+
+pub apart_at : (end : List ℕ → Option ℕ) (done : List ℕ) (kind : PendingKind) (count : ℕ) (front before : List ℕ) (start : List (List ℕ)) (more size : ℕ) (last bytes rest mid slice front' last' : List ℕ) (list : List (Option (List ℕ))) → kind ≡ pending.Literal → AreApart end before start more size last bytes rest
+    → mid ≡ front ++ slice → slice ≡ before → front' ≡ mid ++ take size bytes → last' ≡ last → Holds end done kind count front before list → Holds end done kind (count + more) front' last' (list ++ map Some (start ++ last ∷ []))
+apart_at end done kind count front before start more size last bytes rest mid slice front' last' list k a m s f l h =
+    subst (λ k. Holds end done k count front before list → Holds end done k (count + more) front' last' (list ++ map Some (start ++ last ∷ []))) (sym k)
+    (λ h. subst (λ n. Holds end done pending.Literal n front' last' (list ++ map Some (start ++ last ∷ []))) (let q : suc (count + length start) ≡ count + more = omega (arith, a.count_is) in q)
+    (subst (λ b. Holds end done pending.Literal (suc (count + length start)) b last' (list ++ map Some (start ++ last ∷ []))) (sym (f ∙ ap (λ b. b ++ take size bytes) (m ∙ ap (λ b. front ++ b) s) ∙ ap (λ b. (front ++ before) ++ b) (apart_front end before start more size last bytes rest a)))
+    (subst (λ b. Holds end done pending.Literal (suc (count + length start)) ((front ++ before) ++ joined start) b (list ++ map Some (start ++ last ∷ []))) (sym l)
+    (arm_apart end done start count front before last list a.each a.apart h)))) h
+
+-- ---- the state of the writer with what was added
+
+pub added_writing : (end : List ℕ → Option ℕ) → ReadsItems end → (failed : Bool) (total : ℕ) (done : List ℕ) (kind : PendingKind) (count : ℕ) (front last : List ℕ) (value : Option (List (Option (List ℕ)))) (added : List (Option (List ℕ))) (k most : ℕ) (done' : List ℕ) (kind' : PendingKind) (count' : ℕ) (front' last' : List ℕ) → failed ≡ false → IsWriting end failed total done kind count front last → cond failed None (Some (written_so_far end total done kind count front last)) ≡ value → IfSome value (λ list. length list + most ≤ 2 ^ 32) → length added ≡ k → k ≤ most
+    → ((list : List (Option (List ℕ))) → Holds end done kind count front last list → Holds end done' kind' count' front' last' (list ++ added))
+    → IsWriting end false (total + k) done' kind' count' front' last' × IfSome value (λ list. Some (written_so_far end (total + k) done' kind' count' front' last') ≡ Some (list ++ added))
+added_writing end reads failed total done kind count front last value added k most done' kind' count' front' last' f w e r s b step =
+    let o = open_writing end failed total done kind count front last f w in
+    let list = written_so_far end total done kind count front last in
+    let room = room_for end failed total done kind count front last value most f w e r in
+    let size : length (list ++ added) ≡ total + k = omega (arith, o.0, length-append list added, s) in
+    let h = step list o.1 in
+    let s : written_so_far end (total + k) done' kind' count' front' last' ≡ list ++ added = shown end reads done' kind' count' front' last' (list ++ added) (total + k) (omega (arith, size, room.1, b)) (sym size) h in (
+      (ap length s ∙ size, subst (λ l. Holds end done' kind' count' front' last' l) (sym s) h, omega (arith, room.1, b)),
+      subst (λ v. IfSome v (λ list. Some (written_so_far end (total + k) done' kind' count' front' last') ≡ Some (list ++ added))) (in_value failed list value f e) (ap Some s),
+    )
+
+pub length_items : (start : List (List ℕ)) (last : List ℕ) (count : ℕ) → count ≡ length start + 1 → length (map Some (start ++ last ∷ [])) ≡ count
+length_items start last count e = omega (arith, e, length-map (start ++ last ∷ []) Some, length-append start (last ∷ []))
+
+-- ---- a cursor behind the items
+
+pub record Passed (end : List ℕ → Option ℕ) (left count : ℕ) (bytes : List ℕ) (items : List (List ℕ)) (rest : List ℕ) : Type 0 where
+  pub holds : HasEntries end (left - length items) (in_literal (count - length items) rest)
+  pub shows : entries end left (in_literal count bytes) ≡ map Some items ++ entries end (left - length items) (in_literal (count - length items) rest)
+
+never_passed : (end : List ℕ → Option ℕ) (count : ℕ) (bytes : List ℕ) → HasEntries end 0 (in_literal (suc count) bytes) → ⊥
+unfolding HasEntries
+never_passed end count bytes h = omega (arith, h.0)
+
+passed : (end : List ℕ → Option ℕ) → ReadsItems end → (items : List (List ℕ)) (left count : ℕ) (rest : List ℕ) → AllByRecursion (IsItem end) items → length items ≤ count → HasEntries end left (in_literal count (joined items ++ rest)) → Passed end left count (joined items ++ rest) items rest
+passed end reads [] left count rest i l h =
+    let a : left ≡ left - 0 = omega arith in
+    let b : count ≡ count - 0 = omega arith in
+    record {
+      holds = subst (λ n. HasEntries end n (in_literal (count - 0) rest)) a (subst (λ n. HasEntries end left (in_literal n rest)) b h);
+      shows = ap (λ n. entries end left (in_literal n rest)) b ∙ ap (λ n. entries end n (in_literal (count - 0) rest)) a;
+    }
+passed end reads (x ∷ items) left zero rest i l h = absurd (omega arith)
+passed end reads (x ∷ items) zero (suc count) rest i l h = absurd (never_passed end count (joined (x ∷ items) ++ rest) h)
+passed end reads (x ∷ items) (suc left) (suc count) rest i l h =
+    let next = item_step end reads count x (joined items) rest i.0 in
+    let p = in_literal (suc count) (joined (x ∷ items) ++ rest) in
+    let w = passed end reads items left count rest i.1 (omega arith) (HasEntries-step end left p _ next h) in
+    let a : left - length items ≡ suc left - suc (length items) = omega arith in
+    let b : count - length items ≡ suc count - suc (length items) = omega arith in
+    record {
+      holds = subst (λ n. HasEntries end n (in_literal (suc count - suc (length items)) rest)) a (subst (λ n. HasEntries end (left - length items) (in_literal n rest)) b w.holds);
+      shows = entries-step end left p _ next ∙ ap (λ l. Some x ∷ l) (w.shows ∙ ap (λ l. map Some items ++ l) (ap (λ n. entries end (left - length items) (in_literal n rest)) b ∙ ap (λ n. entries end n (in_literal (suc count - suc (length items)) rest)) a));
+    }
+
+pub passed_at : (end : List ℕ → Option ℕ) → ReadsItems end → (p : Place) (left k : ℕ) (items : List (List ℕ)) (rest : List ℕ) → p.kind ≡ kinds.Literal → HasEntries end left p → AllByRecursion (IsItem end) items → length items ≡ k → k ≤ p.count → p.rest ≡ joined items ++ rest
+    → HasEntries end (left - k) (in_literal (p.count - k) rest) × (entries end left p ≡ map Some items ++ entries end (left - k) (in_literal (p.count - k) rest))
+passed_at end reads p left k items rest e h i s l b =
+    let w = passed end reads items left p.count rest i (omega (arith, s)) (subst (λ b. HasEntries end left (in_literal p.count b)) b (literal-holds end left p e h)) in
+    let shows = literal-entries end left p e ∙ ap (λ b. entries end left (in_literal p.count b)) b ∙ w.shows in
+    (subst (λ n. HasEntries end (left - n) (in_literal (p.count - n) rest)) s w.holds, shows ∙ ap (λ n. map Some items ++ entries end (left - n) (in_literal (p.count - n) rest)) s)
+
+-- ---- what was taken
+
+pub took_nothing : {A : Type 0} (from : List A) (self : Option (List A)) → Took 0 from from self self
+took_nothing from None = ([], refl, refl, tt)
+took_nothing from (Some list) = ([], refl, refl, ap Some (sym (append-nil list)))
+
+pub none_same : {A : Type 0} (self : Option (List A)) → IfNone self (self ≡ None)
+none_same None = refl
+none_same (Some list) = tt
+
+pub took_more : {A : Type 0} (a b : ℕ) (from mid behind part : List A) (self next last : Option (List A)) → Took a from mid self next → length part ≡ b → mid ≡ part ++ behind → IfSome next (λ list. last ≡ Some (list ++ part)) → Took (a + b) from behind self last
+took_more {A = A} a b from mid behind part self next last t s e w = (
+  t.0 ++ part,
+  omega (arith, t.1, s, length-append t.0 part),
+  t.2 ∙ ap (λ l. t.0 ++ l) e ∙ sym (append_assoc t.0 part behind),
+  written self t.3,
+)
+  where
+    written : (self : Option (List A)) → IfSome self (λ list. next ≡ Some (list ++ t.0)) → IfSome self (λ list. last ≡ Some (list ++ (t.0 ++ part)))
+    written None h = tt
+    written (Some list) h = subst (λ v. IfSome v (λ l. last ≡ Some (l ++ part))) h w ∙ ap Some (append_assoc list t.0 part)
+
+pub took_room : {A : Type 0} (k more most : ℕ) (from mid : List A) (self next : Option (List A)) → Took k from mid self next → k + more ≤ most → IfSome self (λ list. length list + most ≤ 2 ^ 32) → IfNone self (next ≡ None) → IfSome next (λ list. length list + more ≤ 2 ^ 32)
+took_room k more most from mid None next t l r n = subst (λ v. IfSome v (λ list. length list + more ≤ 2 ^ 32)) (sym n) tt
+took_room k more most from mid (Some list) next t l r n = subst (λ v. IfSome v (λ list. length list + more ≤ 2 ^ 32)) (sym t.3) (omega (arith, r, t.1, length-append list t.0))
+
+pub took_left : {A : Type 0} (k most : ℕ) (from mid : List A) (self next : Option (List A)) → Took k from mid self next → most ≤ length from → most - k ≤ length mid
+took_left k most from mid self next t l = omega (arith, ap length t.2, length-append t.0 mid, t.1)
