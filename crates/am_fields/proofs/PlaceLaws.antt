@@ -18,6 +18,10 @@ place-next [] i actor at n e t = absurd (omega arith)
 place-next (x ∷ actors) zero actor at n e t = let same : at ≡ x = e in rw (ap (is_actor actor) (sym same) ∙ t) refl
 place-next (x ∷ actors) (suc i) actor at n e t = place-next actors i actor at (omega arith) e t
 
+-- the same by any number that is one more
+pub place-next-at : (actors : List (List ℕ)) (i j : ℕ) (actor at : List ℕ) → j ≡ suc i → i < length actors → at ≡ get_or actors i at → is_actor actor at ≡ false → place_of (drop i actors) actor ≡ suc (place_of (drop j actors) actor)
+place-next-at actors i j actor at s n e t = place-next actors i actor at n e t ∙ ap (λ k. suc (place_of (drop k actors) actor)) (sym s)
+
 equal_of : (r : Ordering) → is_eq r ≡ true → r ≡ Equal
 equal_of Less e = absurd (cc)
 equal_of Equal e = refl

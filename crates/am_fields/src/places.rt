@@ -6,8 +6,7 @@ ghost use Rattle.am_delta.specs.Deltas.{IsMiddling};
 ghost use Rattle.am_fields.specs.Columns.{place_of};
 ghost use Rattle.am_fields.specs.Layout.{object_actor, object_counter as counter_of_object, key_actor, key_counter as counter_of_key, key_string};
 
-use am_types::{ActorId, KeyRef, ObjRef};
-use std::cmp::Ordering;
+use am_types::{ActorId, KeyRef, ObjRef, same_actor};
 
 /// Where an actor stands in a list of actors, counted from 0, or the length of the list.
 pub fn place_in(actors: &[ActorId], actor: &[u8]) -> u64
@@ -15,7 +14,7 @@ pub fn place_in(actors: &[ActorId], actor: &[u8]) -> u64
 {
     let mut i = 0;
     while i < actors.len() {
-        if actor.cmp(actors[i].as_slice()) == Ordering::Equal {
+        if same_actor(actor, actors[i].as_slice()) {
             return i as u64;
         }
         i += 1;
