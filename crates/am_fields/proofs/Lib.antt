@@ -20,3 +20,4 @@ pub mod CanonicalLaws
 pub mod Spelled
 pub mod ListPlaces
 pub mod Stretches
+pub mod Ahead

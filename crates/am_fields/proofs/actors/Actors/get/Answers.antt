@@ -1,5 +1,5 @@
 use Rattle.std.proofs.Common.{◌≡◌, ◌∷◌, List, ℕ, drop, IfSome, IsTrue, is_some, subst, rules}
-use Rattle.am_fields.proofs.ListPlaces.{found_here, found_is}
+use Rattle.am_fields.proofs.ListPlaces.{found_here}
 use Rattle.am_fields.proofs.actors.Actors.get.Goals as goal
 
 pub returns-then-is_some-clause-actor : goal.returns-then-is_some-clause-actor
@@ -9,6 +9,3 @@ returns-then-is_some-clause-actor c =
     let some : IsTrue (is_some c.self.inside.last) = search rules in
     let kept : IfSome c.self.inside.last (λ b. drop place c.args.self.now ≡ b.now ∷ ys) = subst (λ (all : List (List ℕ)). IfSome c.self.inside.last (λ b. drop place all ≡ b.now ∷ ys)) c.self.view_is c.self.invariant in
     found_here c.args.self.now c.self.inside.last ys place c.args.place c.if-place-self.true some kept
-
-pub returns-clause-actor : goal.returns-clause-actor
-returns-clause-actor c = found_is c.args.self.now c.found-behind.result.0 c.found-behind.result.1 c.args.place c.found-behind.ensures

@@ -1,7 +1,7 @@
 use Rattle.std.proofs.Common.{◌≡◌, ◌<◌, ◌++◌, length, Some, false, subst, arith}
 use Rattle.std.specs.Prelude.{OnOk, IfSome}
 use Rattle.am_fields.proofs.Filled.{filled_nothing, filled_something}
-use Rattle.am_fields.proofs.flags.copy_items.Goals as goal
+use Rattle.am_fields.proofs.flag_runs.copy_items.Goals as goal
 
 pub returns-then-left-eq0-clause-ok : goal.returns-then-left-eq0-clause-ok
 returns-then-left-eq0-clause-ok c =

@@ -2,7 +2,7 @@ use Rattle.std.proofs.Common.{[], None, refl}
 use Rattle.am_runs.specs.Typed.{JoinsTexts}
 use Rattle.am_fields.proofs.OneColumn.{texts_one}
 use Rattle.am_fields.proofs.Filled.{joins_nothing, joins_known, Fills-filled_empty, Fills-filled_full, IsFull_empty, length-filled, empty_true, empty_false}
-use Rattle.am_fields.proofs.texts.TextColumn.spelled.Goals as goal
+use Rattle.am_fields.proofs.text_runs.TextRuns.spelled.Goals as goal
 
 pub spelled-cursor-requires : goal.spelled-cursor-requires
 spelled-cursor-requires c = ([], joins_nothing JoinsTexts texts_one c.args.bytes.now (empty_true c.args.bytes.now c.if-is_empty.ensures), refl)

@@ -2,7 +2,7 @@ use Rattle.std.proofs.Common.{◌≡◌, ◌≤◌, None, arith, length, sym, ap
 use Rattle.std.specs.Prelude.{option_map}
 use Rattle.std.proofs.lemmas.Grind.{common_steps}
 use Rattle.am_fields.proofs.Filled.{filled_part, full_behind, blanks_part, full_none, length-filled}
-use Rattle.am_fields.proofs.texts.TextColumn.next_alike_within.Goals as goal
+use Rattle.am_fields.proofs.text_runs.TextRuns.next_alike_within.Goals as goal
 
 pub overflow_sub-self : goal.overflow_sub-self
 overflow_sub-self c =

@@ -2,7 +2,7 @@ use Rattle.std.proofs.Common.{[], false, refl}
 use Rattle.am_flags.specs.Flags.{JoinsFlags}
 use Rattle.am_fields.proofs.OneColumn.{flags_one}
 use Rattle.am_fields.proofs.Filled.{joins_nothing, joins_known, Fills-filled_empty, Fills-filled_full, IsFull_empty, length-filled, empty_true, empty_false}
-use Rattle.am_fields.proofs.flags.FlagColumn.spelled.Goals as goal
+use Rattle.am_fields.proofs.flag_runs.FlagRuns.spelled.Goals as goal
 
 pub spelled-cursor-requires : goal.spelled-cursor-requires
 spelled-cursor-requires c = ([], joins_nothing JoinsFlags flags_one c.args.bytes.now (empty_true c.args.bytes.now c.if-is_empty.ensures), refl)
