@@ -15,14 +15,14 @@ use crate::cursor::OpCursor;
 use crate::op::OpRef;
 use am_colmeta::ActorList;
 use am_fields::IdCursor;
-use am_types::{KeyRef, ObjRef};
+use am_types::{KeyRef, ObjRef, compare_bytes, same_actor};
 use std::cmp::Ordering;
 
-// Whether the bytes are the same.
+// Whether the two are one actor.
 pub fn is_same(a: &[u8], b: &[u8]) -> bool
     ensures { IsTrue result ↔ (a.now ≡ b.now) }
 {
-    a == b
+    same_actor(a, b)
 }
 
 fn object_names(object: ObjRef<'_>, actor: &[u8]) -> bool
@@ -112,7 +112,7 @@ pub fn ascend(actors: &ActorList<'_>) -> bool
     };
     let mut before = first;
     while let Some(actor) = rest.next() {
-        if before.cmp(actor) != Ordering::Less {
+        if compare_bytes(before, actor) != Ordering::Less {
             return false;
         }
         before = actor;

@@ -4,7 +4,7 @@ ghost use Rattle.std.specs.Option.{option_to_list};
 ghost use Rattle.am_fields.specs.Layout.{object_actor, key_actor};
 ghost use Rattle.am_opcols.specs.Others.{put_actor as put_at, put_other as put_if, put_others, actors_of, others};
 
-use am_types::{ActorId, Key, ObjId, Op, OpId, Twin};
+use am_types::{ActorId, Key, ObjId, Op, OpId, Twin, compare_actors, same_actor};
 use std::alloc::{AllocError, Global};
 use std::cmp::Ordering;
 
@@ -15,7 +15,7 @@ fn search(known: &[ActorId], actor: &ActorId) -> Result<usize, usize>
 {
     let mut i = 0;
     while i < known.len() {
-        match actor.as_slice().cmp(known[i].as_slice()) {
+        match compare_actors(actor.as_slice(), known[i].as_slice()) {
             Ordering::Less => return Err(i),
             Ordering::Equal => return Ok(i),
             Ordering::Greater => i += 1,
@@ -47,7 +47,7 @@ fn put_other(
 ) -> Result<(), AllocError>
     ensures { OnOk result (known.new.items ≡ put_if author.now actor.now known.old.items) }
 {
-    if actor.as_slice().cmp(author.as_slice()) == Ordering::Equal {
+    if same_actor(actor.as_slice(), author.as_slice()) {
         return Ok(());
     }
     put_actor(alloc, known, actor)
