@@ -10,13 +10,13 @@ ghost use Rattle.am_change.specs.Building.{hashes_in, front_of, change_with};
 use crate::fine_op::is_fine_op;
 use crate::front::FrontRef;
 use am_opcols::OpCursor;
-use am_types::{slice_known, str_known};
+use am_types::{compare_bytes, slice_known, str_known};
 use std::cmp::Ordering;
 
 fn is_below(a: &[u8], b: &[u8]) -> bool
     ensures { IsTrue result ↔ (bytes_cmp a.now b.now ≡ Less) }
 {
-    a.cmp(b) == Ordering::Less
+    compare_bytes(a, b) == Ordering::Less
 }
 
 // Whether each of the hashes that stand one after another is below the next.

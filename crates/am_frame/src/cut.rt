@@ -5,6 +5,7 @@ ghost use Rattle.am_frame.specs.Faults.{BeginsNoNumber};
 ghost use Rattle.am_frame.specs.Heads.{IsShort, JudgesHead};
 
 use am_leb::{LebFault, completed, one_spelling, read_u};
+use am_types::same_bytes;
 
 /// The four bytes with which each chunk begins.
 pub const MAGIC: [u8; 4] = [0x85, 0x6f, 0x4a, 0x83];
@@ -65,13 +66,13 @@ pub fn cut_frame(bytes: &[u8]) -> Result<Cut<'_>, HeadFault>
 {
     if bytes.len() < 4 {
         let (front, _) = MAGIC.split_at(bytes.len());
-        if bytes != front {
+        if !same_bytes(bytes, front) {
             return Err(HeadFault::BadMagic);
         }
         return Err(HeadFault::Truncated);
     }
     let (magic, head) = bytes.split_at(4);
-    if magic != &MAGIC[..] {
+    if !same_bytes(magic, &MAGIC) {
         return Err(HeadFault::BadMagic);
     }
     if head.len() < 5 {

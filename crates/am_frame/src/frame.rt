@@ -8,7 +8,7 @@ ghost use Rattle.am_frame.specs.Judged.{Judges};
 use crate::cut::{HeadFault, cut_frame};
 use crate::digest::hash_of;
 use crate::fault::FrameFault;
-use am_types::Hash;
+use am_types::{Hash, same_bytes};
 
 /// The first chunk of a file, and what follows it. Nothing is copied.
 #[derive(Drop)]
@@ -35,7 +35,7 @@ fn judge(bytes: &[u8]) -> Result<Frame<'_>, FrameFault>
     let hash = hash_of(cut.covered);
     let Hash(digest) = hash;
     let (first, _) = digest.split_at(4);
-    if first != cut.checksum {
+    if !same_bytes(first, cut.checksum) {
         return Err(FrameFault::BadChecksum);
     }
     match cut.kind {
