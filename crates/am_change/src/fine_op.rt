@@ -10,7 +10,9 @@ ghost use Rattle.am_opcols.specs.Rows.{op_of};
 ghost use Rattle.am_opcols.specs.Chains.{Chain};
 
 use am_opcols::{OpRef, PredCursor};
-use am_types::{IdRef, KeyRef, ObjRef, compare_ids, slice_known, str_known};
+use am_types::{
+    GREATEST_COUNTER, IdRef, KeyRef, LONGEST_ACTOR, ObjRef, compare_ids, slice_known, str_known,
+};
 use am_values::good_value;
 use std::cmp::Ordering;
 
@@ -19,7 +21,10 @@ pub fn is_id(id: IdRef<'_>) -> bool
     ensures { IsTrue result ↔ IsId (id_of id.entry) }
 {
     slice_known(id.actor);
-    id.counter >= 1 && id.counter < 1 << 53 && !id.actor.is_empty() && id.actor.len() <= 1024
+    id.counter >= 1
+        && id.counter <= GREATEST_COUNTER
+        && !id.actor.is_empty()
+        && id.actor.len() <= LONGEST_ACTOR
 }
 
 // Whether the object is the root or has an id within the limits.

@@ -10,7 +10,7 @@ ghost use Rattle.am_change.specs.Building.{hashes_in, front_of, change_with};
 use crate::fine_op::is_fine_op;
 use crate::front::FrontRef;
 use am_opcols::OpCursor;
-use am_types::{compare_bytes, slice_known, str_known};
+use am_types::{GREATEST_COUNTER, compare_bytes, slice_known, str_known};
 use std::cmp::Ordering;
 
 fn is_below(a: &[u8], b: &[u8]) -> bool
@@ -67,20 +67,22 @@ fn are_good(front: &FrontRef<'_>, count: u64) -> bool
         × (neg_ℤ (pos (2 ^ 62)) <ℤ front.now.time) × (front.now.time <ℤ pos (2 ^ 62))) }
 {
     front.seq >= 1
-        && front.seq < 1 << 53
+        && front.seq <= GREATEST_COUNTER
         && front.start >= 1
-        && front.start <= (1 << 53) - count
+        && front.start <= GREATEST_COUNTER + 1 - count
         && front.time > -(1 << 62)
         && front.time < 1 << 62
 }
 
-fn are_few(count: u64) -> bool
+// Whether a change may have so many dependencies.
+pub fn are_few(count: u64) -> bool
     ensures { IsTrue result ↔ (count ≤ 2 ^ 22) }
 {
     count <= 1 << 22
 }
 
-fn is_short(bytes: &[u8]) -> bool
+// Whether so many bytes may stand behind the columns.
+pub fn is_short(bytes: &[u8]) -> bool
     ensures { IsTrue result ↔ (length bytes.now < 2 ^ 60) }
 {
     bytes.len() < 1 << 60

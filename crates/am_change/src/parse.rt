@@ -18,7 +18,7 @@ use crate::fine::is_fine;
 use crate::front::FrontRef;
 use am_colmeta::Columns;
 use am_opcols::{OpColumns, OpCursor};
-use am_types::{Change, Op};
+use am_types::{Change, LONGEST_ACTOR, Op};
 use std::alloc::Global;
 use std::str::from_utf8;
 
@@ -63,7 +63,7 @@ pub fn opened<'a>(front: &FrontRef<'a>, rest: &'a [u8]) -> Option<Behind<'a>>
     let Ok(message) = from_utf8(front.message) else {
         return None;
     };
-    if front.actor.is_empty() || front.actor.len() > 1024 {
+    if front.actor.is_empty() || front.actor.len() > LONGEST_ACTOR {
         return None;
     }
     Some(Behind {

@@ -17,7 +17,7 @@ use crate::suffix::is_suffix;
 use am_change::HashList;
 use am_colmeta::ActorList;
 use am_doccols::{MetaCursor, RowCursor};
-use am_types::Hash;
+use am_types::{Hash, LONGEST_ACTOR};
 use std::marker::Model;
 
 // The columns that change rows may have.
@@ -57,7 +57,7 @@ fn are_short(actors: &ActorList<'_>) -> bool
 {
     let mut rest = actors.again();
     while let Some(actor) = rest.next() {
-        if actor.is_empty() || actor.len() > 1024 {
+        if actor.is_empty() || actor.len() > LONGEST_ACTOR {
             return false;
         }
     }

@@ -5,38 +5,36 @@ ghost use Rattle.am_opcols.specs.EachColumn.{CanonicalNumbers, CanonicalTexts, C
 
 use crate::found::OpColumns;
 use am_runs::{TextItem, UnsignedItem, is_canonical};
-
-// The most operations of a change, and the most predecessors of all together.
-const MOST: u64 = 4194304;
+use am_types::MOST_OPERATIONS;
 
 fn has_numbers(columns: &OpColumns<'_>, specification: u64) -> bool
     ensures { IsTrue result ↔ CanonicalNumbers (column_at columns.now specification) }
 {
-    is_canonical::<UnsignedItem>(columns.find(specification), MOST)
+    is_canonical::<UnsignedItem>(columns.find(specification), MOST_OPERATIONS)
 }
 
 fn has_texts(columns: &OpColumns<'_>, specification: u64) -> bool
     ensures { IsTrue result ↔ CanonicalTexts (column_at columns.now specification) }
 {
-    is_canonical::<TextItem>(columns.find(specification), MOST)
+    is_canonical::<TextItem>(columns.find(specification), MOST_OPERATIONS)
 }
 
 fn has_deltas(columns: &OpColumns<'_>, specification: u64) -> bool
     ensures { IsTrue result ↔ CanonicalDeltas (column_at columns.now specification) }
 {
-    am_delta::is_canonical(columns.find(specification), MOST)
+    am_delta::is_canonical(columns.find(specification), MOST_OPERATIONS)
 }
 
 fn has_flags(columns: &OpColumns<'_>, specification: u64) -> bool
     ensures { IsTrue result ↔ CanonicalFlags (column_at columns.now specification) }
 {
-    am_flags::is_canonical(columns.find(specification), MOST)
+    am_flags::is_canonical(columns.find(specification), MOST_OPERATIONS)
 }
 
 fn has_rare_flags(columns: &OpColumns<'_>, specification: u64) -> bool
     ensures { IsTrue result ↔ CanonicalMaybe (column_at columns.now specification) }
 {
-    am_flags::is_canonical_maybe(columns.find(specification), MOST)
+    am_flags::is_canonical_maybe(columns.find(specification), MOST_OPERATIONS)
 }
 
 fn has_bytes(columns: &OpColumns<'_>, specification: u64) -> bool
