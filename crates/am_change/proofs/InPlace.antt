@@ -1,14 +1,14 @@
 -- A change that is judged in its contents.
 --     chain_first, chain_next, chain_none     along hashes that stand one after another
---     whole_fine, whole_back     the change of parts is fine just where the parts pass the tests
+--     whole_fine, whole_back     the change of parts is fine just where what stands beside fine operations passes the tests
 --     own_front            the front of the change of parts is that of which it was made
 --     canonical_as         parts of a fine change are canonical
 --     own_contents         so contents with canonical columns are those of the change that was read
 use Rattle.std.proofs.Common.{◌≡◌, ℕ, zero, suc, ◌+◌, ◌-◌, ◌*◌, ◌<◌, ◌≤◌, ◌^◌, List, ◌++◌, length, take, drop, refl, sym, ap, ◌∙◌, subst, arith, Less, All, ◌↔◌}
-use Rattle.std.specs.Prelude.{pos, neg_ℤ, ◌<ℤ◌, IsUtf8}
+use Rattle.std.specs.Prelude.{IsUtf8}
 use Rattle.std.specs.List.{AllByRecursion}
 use Rattle.std.proofs.lemmas.List.{length-take-le, length-drop}
-use Rattle.std.proofs.lemmas.List.Elements.{All-from_recursion, recursion_from_All, All-take, All-drop}
+use Rattle.std.proofs.lemmas.List.Elements.{All-from_recursion, All-take, All-drop}
 use Rattle.am_types.specs.declared.Op.{Op}
 use Rattle.am_types.specs.declared.Change.{Change}
 use Rattle.am_types.specs.Bytes.{IsBytes, IsHash}
@@ -19,7 +19,8 @@ use Rattle.am_opcols.specs.Others.{others}
 use Rattle.am_opcols.specs.Writing.{written_columns}
 use Rattle.am_change.specs.Contents.{contents}
 use Rattle.am_change.specs.Fronts.{Front, front_bytes, front}
-use Rattle.am_change.specs.Building.{hash_with, hashes_in, change_with}
+use Rattle.am_change.specs.Building.{hash_with, hashes_in, front_of, change_with, IsFrontFine}
+use Rattle.am_change.specs.declared.front.FrontRef.{FrontRef}
 use Rattle.am_opcols.specs.Chains.{Chain, ChainFrom}
 use Rattle.am_opcols.proofs.Chains.{chain_ascends, ascends_chain}
 use Rattle.am_change.proofs.ContentsLaws.{contents-front}
@@ -66,53 +67,38 @@ are_hashes (suc n) bytes b l = (
 
 -- ---- fine parts
 
--- what Rust's types and the reader say of the parts
-pub record Parts (count : ℕ) (hashes : List ℕ) (f : Front) (ops : List Op) (extra : List ℕ) : Type 0 where
-  pub deps : f.deps ≡ hashes_in count hashes
-  pub size : length hashes ≡ 32 * count
-  pub hash_bytes : IsBytes hashes
-  pub message : IsUtf8 f.message
-  pub actor : IsBytes f.actor
-  pub some : 1 ≤ length f.actor
-  pub short : length f.actor ≤ 1024
+-- what Rust's types and the reader say of the parts beside the operations
+pub record Parts (r : FrontRef) (extra : List ℕ) : Type 0 where
+  pub size : length r.hashes.now ≡ 32 * r.count
+  pub hash_bytes : IsBytes r.hashes.now
+  pub message : IsUtf8 r.message.now
+  pub actor : IsBytes r.actor.now
+  pub some : 1 ≤ length r.actor.now
+  pub short : length r.actor.now ≤ 1024
   pub extra_bytes : IsBytes extra
-  pub few : length ops ≤ 2 ^ 22
-  pub few_preds : pred_count ops ≤ 2 ^ 22
 
--- what is tested
-pub record Tests (count : ℕ) (hashes : List ℕ) (f : Front) (ops : List Op) (extra : List ℕ) : Type 0 where
-  pub few_deps : count ≤ 2 ^ 22
-  pub short_extra : length extra < 2 ^ 60
-  pub ascend : Chain hash_cmp (hashes_in count hashes)
-  pub each : AllByRecursion FineOp ops
-  pub seq : (1 ≤ f.seq) × (f.seq < 2 ^ 53)
-  pub start : 1 ≤ f.start
-  pub end : f.start + length ops ≤ 2 ^ 53
-  pub time : (neg_ℤ (pos (2 ^ 62)) <ℤ f.time) × (f.time <ℤ pos (2 ^ 62))
-
-pub whole_fine : (count : ℕ) (hashes : List ℕ) (f : Front) (ops : List Op) (extra : List ℕ) → Parts count hashes f ops extra → Tests count hashes f ops extra → Fine (change_with f ops extra)
-whole_fine count hashes f ops extra p t = record {
-  deps = subst (All IsHash) (sym p.deps) (All-from_recursion IsHash (hashes_in count hashes) (are_hashes count hashes p.hash_bytes p.size));
-  deps_ascend = subst (Ascends hash_cmp) (sym p.deps) (chain_ascends hash_cmp (hashes_in count hashes) t.ascend);
-  few_deps = omega (arith, t.few_deps, ap length p.deps, length-hashes count hashes);
+pub whole_fine : (r : FrontRef) (count : ℕ) (ops : List Op) (extra : List ℕ) → Parts r extra → IsFrontFine r count extra → length ops ≡ count → count ≤ 2 ^ 22 → pred_count ops ≤ 2 ^ 22 → All FineOp ops → Fine (change_with (front_of r) ops extra)
+whole_fine r count ops extra p t n few few_preds each = record {
+  deps = All-from_recursion IsHash (hashes_in r.count r.hashes.now) (are_hashes r.count r.hashes.now p.hash_bytes p.size);
+  deps_ascend = chain_ascends hash_cmp (hashes_in r.count r.hashes.now) t.ascend;
+  few_deps = omega (arith, t.few_deps, length-hashes r.count r.hashes.now);
   actor = record { some = p.some; few = p.short; are_bytes = p.actor };
-  numbers = record { seq = t.seq; start = t.start; few_ops = p.few; max = omega (arith, t.start, t.end); time = t.time };
+  numbers = record { seq = t.seq; start = t.start; few_ops = omega (arith, n, few); max = omega (arith, n, t.start, t.end); time = t.time };
   message = p.message;
   extra = p.extra_bytes;
   short_extra = t.short_extra;
-  few_preds = p.few_preds;
-  ops = All-from_recursion FineOp ops t.each;
+  few_preds = few_preds;
+  ops = each;
 }
 
-pub whole_back : (count : ℕ) (hashes : List ℕ) (f : Front) (ops : List Op) (extra : List ℕ) → Parts count hashes f ops extra → Fine (change_with f ops extra) → Tests count hashes f ops extra
-whole_back count hashes f ops extra p w = record {
-  few_deps = omega (arith, w.few_deps, ap length p.deps, length-hashes count hashes);
+pub whole_back : (r : FrontRef) (count : ℕ) (ops : List Op) (extra : List ℕ) → length ops ≡ count → Fine (change_with (front_of r) ops extra) → IsFrontFine r count extra
+whole_back r count ops extra n w = record {
+  few_deps = omega (arith, w.few_deps, length-hashes r.count r.hashes.now);
+  ascend = ascends_chain hash_cmp (hashes_in r.count r.hashes.now) w.deps_ascend;
   short_extra = w.short_extra;
-  ascend = ascends_chain hash_cmp (hashes_in count hashes) (subst (Ascends hash_cmp) p.deps w.deps_ascend);
-  each = recursion_from_All FineOp ops w.ops;
   seq = (w.numbers).seq;
   start = (w.numbers).start;
-  end = omega (arith, (w.numbers).start, (w.numbers).max);
+  end = omega (arith, n, (w.numbers).start, (w.numbers).max);
   time = (w.numbers).time;
 }
 

@@ -2,12 +2,15 @@
 --     front_of r     the parts that a lent front stands for
 --     change_with f ops extra     the change with these parts, operations and further bytes
 --     IsOpWithin op     the ids that an operation names are within their limits
-use Rattle.std.specs.Prelude.{ℕ, zero, suc, List, [], ◌∷◌, take, drop}
+--     IsFrontFine r n extra     a lent front and further bytes are as those of a fine change with n operations are
+use Rattle.std.specs.Prelude.{ℕ, zero, suc, ◌+◌, ◌<◌, ◌≤◌, ◌^◌, ◌<ℤ◌, neg_ℤ, pos, List, [], ◌∷◌, take, drop, length}
 use Rattle.std.specs.List.{AllByRecursion}
 use Rattle.am_types.specs.declared.Hash.{Hash}
 use Rattle.am_types.specs.declared.Op.{Op}
 use Rattle.am_types.specs.declared.Change.{Change}
+use Rattle.am_types.specs.Order.{hash_cmp}
 use Rattle.am_fields.specs.Limits.{IsWithin, IsObjectWithin, IsKeyWithin}
+use Rattle.am_opcols.specs.Chains.{Chain}
 use Rattle.am_change.specs.Fronts.{Front}
 use Rattle.am_change.specs.declared.front.FrontRef.{FrontRef}
 
@@ -47,3 +50,13 @@ pub record IsOpWithin (op : Op) : Type 0 where
   pub object : IsObjectWithin op.obj
   pub key : IsKeyWithin op.key
   pub preds : AllByRecursion IsWithin op.preds
+
+-- what Rust's types and the reader say of the parts isn't said again
+pub record IsFrontFine (r : FrontRef) (count : ℕ) (extra : List ℕ) : Type 0 where
+  pub few_deps : r.count ≤ 2 ^ 22
+  pub ascend : Chain hash_cmp (hashes_in r.count r.hashes.now)
+  pub short_extra : length extra < 2 ^ 60
+  pub seq : (1 ≤ r.seq) × (r.seq < 2 ^ 53)
+  pub start : 1 ≤ r.start
+  pub end : r.start + count ≤ 2 ^ 53
+  pub time : (neg_ℤ (pos (2 ^ 62)) <ℤ r.time) × (r.time <ℤ pos (2 ^ 62))

@@ -1,11 +1,12 @@
 //! Whether a change that is lent from its contents is fine.
-ghost use Rattle.std.specs.Prelude.{◌≡◌, ◌↔◌, ◌+◌, ◌*◌, ◌≤◌, ◌<◌, ◌<ℤ◌, ◌^◌, IsTrue, IfSome, IfNone, length, neg_ℤ, pos};
+ghost use Rattle.std.specs.Prelude.{◌≡◌, ◌↔◌, ◌+◌, ◌*◌, ◌≤◌, ◌<◌, ◌<ℤ◌, ◌^◌, List, All, IsTrue, length, neg_ℤ, pos};
 ghost use Rattle.std.specs.List.{AllByRecursion};
 ghost use Rattle.std.specs.declared.cmp.Ordering.TheVariants.{Less};
+ghost use Rattle.am_types.specs.declared.Op.{Op as AnOp};
 ghost use Rattle.am_types.specs.Order.{bytes_cmp, hash_cmp};
 ghost use Rattle.am_types.specs.Fine.{Fine, FineOp, pred_count};
 ghost use Rattle.am_opcols.specs.Chains.{Chain};
-ghost use Rattle.am_change.specs.Building.{hashes_in, front_of, change_with};
+ghost use Rattle.am_change.specs.Building.{hashes_in, front_of, change_with, IsFrontFine};
 
 use crate::fine_op::is_fine_op;
 use crate::front::FrontRef;
@@ -43,21 +44,17 @@ pub fn hashes_ascend(bytes: &[u8], count: u64) -> bool
     true
 }
 
-// How many operations there are, if each is fine.
-fn fine_count(ops: &OpCursor<'_>) -> Option<u64>
-    requires { length ops.now ≤ 2 ^ 22 }
-    ensures some { IfSome result (λ n. (n ≡ length ops.now) × AllByRecursion FineOp ops.now) }
-    ensures none { IfNone result (AllByRecursion FineOp ops.now → ⊥) }
+// Whether each operation is fine.
+fn are_fine_ops(ops: &OpCursor<'_>) -> bool
+    ensures { IsTrue result ↔ AllByRecursion FineOp ops.now }
 {
-    let mut count = 0;
     let mut rest = ops.again();
     while let Some(op) = rest.next() {
         if !is_fine_op(&op) {
-            return None;
+            return false;
         }
-        count += 1;
     }
-    Some(count)
+    true
 }
 
 // Whether the numbers of a change with so many operations are within their limits.
@@ -88,6 +85,35 @@ pub fn is_short(bytes: &[u8]) -> bool
     bytes.len() < 1 << 60
 }
 
+// Whether what stands beside the operations of a change, of which there are so many, passes each test.
+fn passes(front: &FrontRef<'_>, count: u64, extra: &[u8]) -> bool
+    requires hashes { length front.now.hashes.now ≡ 32 * front.now.count }
+    requires few { count ≤ 2 ^ 22 }
+    ensures { IsTrue result ↔ IsFrontFine front.now count extra.now }
+{
+    are_few(front.count)
+        && is_short(extra)
+        && are_good(front, count)
+        && hashes_ascend(front.hashes, front.count)
+}
+
+// Whether what stands beside the operations of a change is that of a fine one, whatever so many fine operations there are.
+pub fn is_fine_beside(front: &FrontRef<'_>, message: &str, count: u64, extra: &[u8]) -> bool
+    requires hashes { length front.now.hashes.now ≡ 32 * front.now.count }
+    requires message { message.now ≡ front.now.message.now }
+    requires some { 1 ≤ length front.now.actor.now }
+    requires short { length front.now.actor.now ≤ 1024 }
+    requires few { count ≤ 2 ^ 22 }
+    ensures fine { IsTrue result → (ops : List AnOp) → length ops ≡ count → pred_count ops ≤ 2 ^ 22 → All FineOp ops → Fine (change_with (front_of front.now) ops extra.now) }
+    ensures only { (ops : List AnOp) → length ops ≡ count → Fine (change_with (front_of front.now) ops extra.now) → IsTrue result }
+{
+    slice_known(front.hashes);
+    slice_known(front.actor);
+    slice_known(extra);
+    str_known(message);
+    passes(front, count, extra)
+}
+
 // Whether the change of these parts is fine.
 pub fn are_fine(front: &FrontRef<'_>, message: &str, ops: &OpCursor<'_>, extra: &[u8]) -> bool
     requires hashes { length front.now.hashes.now ≡ 32 * front.now.count }
@@ -98,21 +124,8 @@ pub fn are_fine(front: &FrontRef<'_>, message: &str, ops: &OpCursor<'_>, extra: 
     requires few_preds { pred_count ops.now ≤ 2 ^ 22 }
     ensures { IsTrue result ↔ Fine (change_with (front_of front.now) ops.now extra.now) }
 {
-    slice_known(front.hashes);
-    slice_known(front.actor);
-    slice_known(extra);
-    str_known(message);
-    if !are_few(front.count) {
+    if !is_fine_beside(front, message, ops.left(), extra) {
         return false;
     }
-    if !is_short(extra) {
-        return false;
-    }
-    if !hashes_ascend(front.hashes, front.count) {
-        return false;
-    }
-    match fine_count(ops) {
-        None => false,
-        Some(count) => are_good(front, count),
-    }
+    are_fine_ops(ops)
 }

@@ -14,7 +14,8 @@ ghost use Rattle.am_change.specs.Judgement.{Judges};
 
 use crate::copying::change_in;
 use crate::fault::ChangeFault;
-use crate::fine::is_fine;
+use crate::fine::are_fine_ops;
+use crate::fine_parts::is_fine_beside;
 use crate::front::FrontRef;
 use am_colmeta::Columns;
 use am_opcols::{OpColumns, OpCursor};
@@ -103,7 +104,8 @@ fn is_canonical_of(front: &FrontRef<'_>, behind: &Behind<'_>, ops: &[Op]) -> boo
     columns.are_canonical_of(front.actor, &front.others, ops)
 }
 
-// The change with these contents. It is copied before it is judged, so that its operations are read once.
+// The change with these contents. What stands beside its operations is judged first; these are copied before they are
+// judged, so that they are read once.
 fn parsed(alloc: Global, bytes: &[u8]) -> Result<Change, ChangeFault>
     ensures { Judges bytes.now result }
 {
@@ -117,11 +119,15 @@ fn parsed(alloc: Global, bytes: &[u8]) -> Result<Change, ChangeFault>
     let Some(behind) = opened(&front, rest) else {
         return Err(ChangeFault::BadChange);
     };
+    let count = behind.ops.left();
+    if !is_fine_beside(&front, behind.message, count, behind.extra) {
+        return Err(ChangeFault::BadChange);
+    }
     let ops = behind.ops.again();
     let Ok(change) = change_in(alloc, &front, behind.message, ops, behind.extra) else {
         return Err(ChangeFault::NoMemory);
     };
-    if !is_fine(&change) {
+    if !are_fine_ops(change.ops.as_slice()) {
         return Err(ChangeFault::BadChange);
     }
     if !is_canonical_of(&front, &behind, change.ops.as_slice()) {

@@ -1,11 +1,12 @@
-use Rattle.std.proofs.Common.{◌≡◌, List, ◌∷◌, refl, sym, subst, ap, ◌∙◌}
+use Rattle.std.proofs.Common.{◌≡◌, List, ◌∷◌, All, refl, sym, subst, ap, ◌∙◌, arith}
 use Rattle.std.specs.List.{AllByRecursion}
 use Rattle.am_types.specs.declared.Op.{Op}
 use Rattle.am_types.specs.declared.Change.{Change}
-use Rattle.am_types.specs.Fine.{Fine}
+use Rattle.am_types.specs.Fine.{Fine, FineOp}
 use Rattle.am_opcols.specs.Columns.{SpellsOps}
 use Rattle.am_opcols.specs.Others.{others}
 use Rattle.am_opcols.specs.Writing.{written_columns}
+use Rattle.am_opcols.proofs.CanonicalLaws.{length-preds}
 use Rattle.am_change.specs.Contents.{contents}
 use Rattle.am_change.specs.Building.{front_of, change_with, IsOpWithin}
 use Rattle.am_change.proofs.Parsing.{no_front, no_change, same_change, ops_within}
@@ -20,6 +21,26 @@ returns-in_default-opened c =
     no_change c.args.bytes.now (front_of c.in-Some.front) c.in-Some.rest.now c.length_known.ensures c.in-Some.ensures.some.0 c.in-Some.ensures.some.1 (λ h. absurd (cc (c.if-compressed.ensures.some.1 h)))
     (λ d fine s e r b. c.in_default-opened.ensures.only d fine s e r)
 
+pub is_fine_beside-requires : goal.is_fine_beside-requires
+is_fine_beside-requires c =
+    let within = (c.in-Some-opened.ensures.spelled).within in
+    record {
+      hashes = c.in-Some.ensures.some.2;
+      message = c.in-Some-opened.ensures.message;
+      some = c.in-Some-opened.ensures.some;
+      short = c.in-Some-opened.ensures.few;
+      few = omega (arith, within.few, c.left-count.ensures);
+    }
+
+pub returns-then-not-is_fine_beside : goal.returns-then-not-is_fine_beside
+returns-then-not-is_fine_beside c =
+    let behind = c.in-Some-opened.behind in
+    no_change c.args.bytes.now (front_of c.in-Some.front) c.in-Some.rest.now c.length_known.ensures c.in-Some.ensures.some.0 c.in-Some.ensures.some.1 (λ h. absurd (cc (c.if-compressed.ensures.some.1 h)))
+    (λ d fine s e r b.
+    let got = c.in-Some-opened.ensures.only d fine s e r in
+    let same : change_with (front_of c.in-Some.front) behind.ops behind.extra.now ≡ d = same_change (front_of c.in-Some.front) behind.ops behind.extra.now d e got.0 got.1 in
+    absurd (cc (c.if-not-is_fine_beside.ensures.only behind.ops (sym c.left-count.ensures) (subst Fine (sym same) fine))))
+
 pub change_in-requires : goal.change_in-requires
 change_in-requires c =
     let behind = c.in-Some-opened.behind in
@@ -31,21 +52,21 @@ change_in-requires c =
       within = subst (AllByRecursion IsOpWithin) (sym c.again-ops.ensures) (ops_within behind.ops (c.in-Some-opened.ensures.spelled).within);
     }
 
-pub returns-then-not-is_fine : goal.returns-then-not-is_fine
-returns-then-not-is_fine c =
+pub returns-then-not-are_fine_ops : goal.returns-then-not-are_fine_ops
+returns-then-not-are_fine_ops c =
     let behind = c.in-Some-opened.behind in
     let whole : c.in-Ok.change ≡ change_with (front_of c.in-Some.front) behind.ops behind.extra.now = c.in-Ok.ensures ∙ ap (λ (os : List Op). change_with (front_of c.in-Some.front) os behind.extra.now) c.again-ops.ensures in
     no_change c.args.bytes.now (front_of c.in-Some.front) c.in-Some.rest.now c.length_known.ensures c.in-Some.ensures.some.0 c.in-Some.ensures.some.1 (λ h. absurd (cc (c.if-compressed.ensures.some.1 h)))
     (λ d fine s e r b.
     let got = c.in-Some-opened.ensures.only d fine s e r in
-    let same : c.in-Ok.change ≡ d = whole ∙ same_change (front_of c.in-Some.front) behind.ops behind.extra.now d e got.0 got.1 in
-    absurd (cc (c.if-not-is_fine.ensures.1 (subst Fine (sym same) fine))))
+    let own : c.as_slice.result.now ≡ d.ops = c.as_slice.ensures ∙ ap (λ (x : Change). x.ops) whole ∙ got.0 in
+    absurd (cc (c.if-not-are_fine_ops.ensures.1 (subst (All FineOp) (sym own) fine.ops))))
 
 pub is_canonical_of-requires : goal.is_canonical_of-requires
 is_canonical_of-requires c =
     let behind = c.in-Some-opened.behind in
     let whole : c.in-Ok.change ≡ change_with (front_of c.in-Some.front) behind.ops behind.extra.now = c.in-Ok.ensures ∙ ap (λ (os : List Op). change_with (front_of c.in-Some.front) os behind.extra.now) c.again-ops.ensures in
-    let same : c.as_slice.result.now ≡ behind.ops = c.as_slice.ensures ∙ ap (λ (x : Change). x.ops) whole in
+    let same : c.as_slice-2.result.now ≡ behind.ops = c.as_slice-2.ensures ∙ ap (λ (x : Change). x.ops) whole in
     record {
       spelled = subst (SpellsOps ((front_of c.in-Some.front).actor ∷ (front_of c.in-Some.front).others) behind.columns) (sym same) c.in-Some-opened.ensures.spelled;
       ascend = c.in-Some-opened.ensures.ascend;
@@ -56,19 +77,23 @@ pub returns-then-not-is_canonical_of : goal.returns-then-not-is_canonical_of
 returns-then-not-is_canonical_of c =
     let behind = c.in-Some-opened.behind in
     let whole : c.in-Ok.change ≡ change_with (front_of c.in-Some.front) behind.ops behind.extra.now = c.in-Ok.ensures ∙ ap (λ (os : List Op). change_with (front_of c.in-Some.front) os behind.extra.now) c.again-ops.ensures in
-    let own : c.as_slice.result.now ≡ behind.ops = c.as_slice.ensures ∙ ap (λ (x : Change). x.ops) whole in
+    let own : c.as_slice-2.result.now ≡ behind.ops = c.as_slice-2.ensures ∙ ap (λ (x : Change). x.ops) whole in
     no_change c.args.bytes.now (front_of c.in-Some.front) c.in-Some.rest.now c.length_known.ensures c.in-Some.ensures.some.0 c.in-Some.ensures.some.1 (λ h. absurd (cc (c.if-compressed.ensures.some.1 h)))
     (λ d fine s e r b.
     let got = c.in-Some-opened.ensures.only d fine s e r in
-    absurd (cc (c.if-not-is_canonical_of.ensures.1 (canonical_as (front_of c.in-Some.front) behind.columns c.as_slice.result.now d e (own ∙ got.0) got.2))))
+    absurd (cc (c.if-not-is_canonical_of.ensures.1 (canonical_as (front_of c.in-Some.front) behind.columns c.as_slice-2.result.now d e (own ∙ got.0) got.2))))
 
 pub returns : goal.returns
 returns c =
     let behind = c.in-Some-opened.behind in
     let whole : c.in-Ok.change ≡ change_with (front_of c.in-Some.front) behind.ops behind.extra.now = c.in-Ok.ensures ∙ ap (λ (os : List Op). change_with (front_of c.in-Some.front) os behind.extra.now) c.again-ops.ensures in
     let f = front_of c.in-Some.front in
-    let own : c.as_slice.result.now ≡ behind.ops = c.as_slice.ensures ∙ ap (λ (x : Change). x.ops) whole in
+    let own : c.as_slice-2.result.now ≡ behind.ops = c.as_slice-2.ensures ∙ ap (λ (x : Change). x.ops) whole in
     let canonical = c.if-not-is_canonical_of.ensures.0 refl in
     let told = own_contents c.args.bytes.now c.in-Some.rest.now f behind.columns behind.ops behind.extra.now c.in-Some.ensures.some.1 c.in-Some-opened.ensures.joined c.in-Some-opened.ensures.listed
     (canonical.0 ∙ ap (others f.actor) own) (canonical.1 ∙ ap (written_columns f.actor) own) in
-    (c.if-not-is_fine.ensures.0 refl, subst (λ (x : Change). c.args.bytes.now ≡ contents x) (sym whole) told)
+    let within = (c.in-Some-opened.ensures.spelled).within in
+    let read : c.as_slice.result.now ≡ behind.ops = c.as_slice.ensures ∙ ap (λ (x : Change). x.ops) whole in
+    let each : All FineOp behind.ops = subst (All FineOp) read (c.if-not-are_fine_ops.ensures.0 refl) in
+    let fine = c.if-not-is_fine_beside.ensures.fine refl behind.ops (sym c.left-count.ensures) (omega (arith, within.few_preds, length-preds behind.ops)) each in
+    (subst Fine (sym whole) fine, subst (λ (x : Change). c.args.bytes.now ≡ contents x) (sym whole) told)
