@@ -9,7 +9,7 @@ ghost use Rattle.am_types.specs.declared.Hash.{Hash};
 use crate::fault::{Added, ClockFault, GraphFault};
 use crate::node::Node;
 use crate::parts::Parts;
-use am_types::{ActorId, Hash, List, Twin};
+use am_types::{ActorId, Hash, List, Twin, same_actor};
 use std::alloc::{AllocError, AllocFailed, Global};
 use std::collections::HashSet;
 use std::marker::Model;
@@ -241,6 +241,6 @@ fn is_same(held: &Node, actor: &ActorId, seq: u64, start: u64, count: u64, deps:
     held.seq == seq
         && held.start == start
         && held.count == count
-        && held.actor.as_slice() == actor.as_slice()
+        && same_actor(held.actor.as_slice(), actor.as_slice())
         && held.deps.as_slice() == deps
 }
