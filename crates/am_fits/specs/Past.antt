@@ -1,10 +1,10 @@
 -- The operations of ancestors, as they are asked for.
 --     Past                the clock of the ancestors, and the facts of all operations
 --     IsPast C t a        what is kept of the actor asked for last is what the clock C and the table t tell
-use Rattle.std.specs.Prelude.{ℕ, ◌≡◌, ◌<◌, true, List}
+use Rattle.std.specs.Prelude.{ℕ, ◌≡◌, List}
 use Rattle.am_types.specs.declared.OpId.{OpId}
 use Rattle.am_graph.specs.declared.reach.Reach.{Reach}
-use Rattle.am_graph.specs.Clocks.{covers}
+use Rattle.am_graph.specs.Clocks.{reach_of}
 use Rattle.am_graph.specs.Reaches.{number}
 use Rattle.am_fits.specs.declared.ancestors.Asked.{Asked}
 use Rattle.am_fits.specs.declared.table.Table.{Table}
@@ -19,4 +19,4 @@ pub record Past : Type 0 where
 pub record IsPast (clock : List (List ℕ × Reach)) (t : Table) (a : Asked) : Type 0 where
   pub table : IsTable t
   pub author : a.author ≡ number (words_of t.texts).authors a.actor.now
-  pub covered : (n : ℕ) → n < a.covered → covers clock (record { counter = n; actor = a.actor.now }) ≡ true
+  pub end : a.end ≡ (reach_of clock a.actor.now).end

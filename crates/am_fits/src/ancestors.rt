@@ -1,7 +1,7 @@
 //! The operations of the ancestors of a change.
-ghost use Rattle.std.specs.Prelude.{◌≡◌, option_map, IfSome, IfNone, true, false};
+ghost use Rattle.std.specs.Prelude.{◌≡◌, option_map};
 ghost use Rattle.am_types.specs.Views.{id_of};
-ghost use Rattle.am_graph.specs.Clocks.{covers};
+ghost use Rattle.am_graph.specs.Clocks.{reach_of};
 ghost use Rattle.am_graph.specs.Reaches.{number};
 ghost use Rattle.am_fits.specs.Past.{IsPast};
 ghost use Rattle.am_fits.specs.Shown.{fact_shown};
@@ -12,7 +12,7 @@ use crate::index::OpIndex;
 use crate::seen::Seen;
 use crate::table::Table;
 use am_graph::Reached;
-use am_types::IdRef;
+use am_types::{IdRef, same_actor};
 use std::marker::Model;
 
 /// What was found out about an actor.
@@ -22,8 +22,8 @@ pub(crate) struct Asked<'a> {
     pub actor: &'a [u8],
     /// The number of the actor, if it is an author.
     pub author: Option<usize>,
-    /// The ancestors cover each counter below this one.
-    pub covered: u64,
+    /// The counter below which the ancestors cover the actor's ids, and at which they cover none.
+    pub end: u64,
 }
 
 /// The operations of the ancestors of a change. What was found out about the actor that was asked for last is kept, since
@@ -53,10 +53,11 @@ impl<'a> Ancestors<'a> {
         ensures facts { result.facts ≡ index.now.facts }
     {
         let table = index.table();
+        let asked = asked_of(&reached, table, actor);
         Ancestors {
             reached,
             table,
-            asked: asked_of(table, actor),
+            asked,
         }
     }
 
@@ -66,11 +67,10 @@ impl<'a> Ancestors<'a> {
         ensures found { option_map fact_shown result ≡ ancestor_fact self.old.clock self.old.facts (id_of id.entry) }
     {
         self.asked = ask(self.asked, &self.reached, self.table, id.actor);
-        let Some(asked) = cover(self.asked, &self.reached, self.table, id.counter) else {
+        if id.counter >= self.asked.end {
             return None;
-        };
-        self.asked = asked;
-        self.table.at(asked.author, id.counter)
+        }
+        self.table.at(self.asked.author, id.counter)
     }
 }
 
@@ -80,51 +80,21 @@ fn ask<'a>(asked: Asked<'a>, reached: &Reached<'_>, table: &'a Table, actor: &'a
     ensures past { IsPast reached.now table.now result }
     ensures actor { result.actor.now ≡ actor.now }
 {
-    if asked.actor == actor {
+    if same_actor(asked.actor, actor) {
         return asked;
     }
-    asked_of(table, actor)
+    asked_of(reached, table, actor)
 }
 
-/// What is known of the actor once its counter was asked for, if the ancestors cover that.
-fn cover<'a>(
-    asked: Asked<'a>,
-    reached: &Reached<'_>,
-    table: &Table,
-    counter: u64,
-) -> Option<Asked<'a>>
-    requires { IsPast reached.now table.now asked }
-    ensures past { IfSome result (λ a. IsPast reached.now table.now a) }
-    ensures actor { IfSome result (λ a. a.actor.now ≡ asked.entry.actor.now) }
-    ensures covered { IfSome result (λ a. covers reached.now (record { counter = counter; actor = asked.entry.actor.now }) ≡ true) }
-    ensures none { IfNone result (covers reached.now (record { counter = counter; actor = asked.entry.actor.now }) ≡ false) }
-{
-    if counter < asked.covered {
-        return Some(asked);
-    }
-    let id = IdRef {
-        counter,
-        actor: asked.actor,
-    };
-    if !reached.covers(id) {
-        return None;
-    }
-    Some(Asked {
-        actor: asked.actor,
-        author: asked.author,
-        covered: counter.saturating_add(1),
-    })
-}
-
-/// What the table tells of an actor.
-fn asked_of<'a>(table: &'a Table, actor: &'a [u8]) -> Asked<'a>
+/// What the clock and the table tell of an actor.
+fn asked_of<'a>(reached: &Reached<'_>, table: &'a Table, actor: &'a [u8]) -> Asked<'a>
     ensures actor { result.actor.now ≡ actor.now }
     ensures author { result.author ≡ number (words_of table.now.texts).authors actor.now }
-    ensures covered { result.covered ≡ 0 }
+    ensures end { result.end ≡ (reach_of reached.now actor.now).end }
 {
     Asked {
         actor,
         author: table.author(actor),
-        covered: 0,
+        end: reached.end(actor),
     }
 }

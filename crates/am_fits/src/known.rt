@@ -7,7 +7,7 @@ ghost use Rattle.am_fits.specs.Told.{told, own_fact, own, object_by, element_by,
 
 use crate::ancestors::Ancestors;
 use crate::seen::{Seen, SlotRef, gives_to, inserts, makes, show, show_slot, takes};
-use am_types::{Change, IdRef, Key, ObjId, ObjRef, Op, OpId};
+use am_types::{Change, IdRef, Key, ObjId, ObjRef, Op, OpId, same_actor};
 
 /// The first operation of the change that names what is neither among the ancestors' operations nor among its own.
 pub(crate) fn first_bad<'a>(ancestors: &mut Ancestors<'a>, change: &'a Change) -> Option<u64>
@@ -129,7 +129,7 @@ fn own<'a>(change: &'a Change, id: &'a OpId, place: usize) -> Option<Seen<'a>>
     ensures { option_map fact_shown result ≡ own_fact change.now place id.now }
 {
     let start = change.start;
-    if id.actor.as_slice() != change.actor.as_slice() || id.counter < start {
+    if id.counter < start || !same_actor(id.actor.as_slice(), change.actor.as_slice()) {
         return None;
     }
     let before = (id.counter - start) as usize;

@@ -4,13 +4,13 @@ ghost use Rattle.std.specs.Option.{option_map_or};
 ghost use Rattle.am_types.specs.Actions as actions;
 ghost use Rattle.am_types.specs.Operations.{slot};
 ghost use Rattle.am_types.specs.References.{takes};
-ghost use Rattle.am_types.specs.Same.{same_id, same_object, same_key};
+ghost use Rattle.am_types.specs.Same.{same_key};
 ghost use Rattle.am_types.specs.Views.{id_of, object_of};
 ghost use Rattle.am_fits.specs.Facts.{Fact, fact_of};
 ghost use Rattle.am_fits.specs.Shown.{slot_shown, fact_shown};
 ghost use Rattle.am_fits.specs.Told.{inserts, gives_to};
 
-use am_types::{IdRef, Key, ObjId, ObjRef, Op, compare_ids};
+use am_types::{IdRef, Key, ObjId, ObjRef, Op, same_bytes, same_id, same_object};
 
 /// A slot, borrowed.
 #[derive(Clone, Copy, Debug)]
@@ -98,27 +98,11 @@ pub(crate) fn takes(action: u8, key: &Key) -> bool
     }
 }
 
-fn same_id(a: IdRef<'_>, b: IdRef<'_>) -> bool
-    ensures { result ≡ same_id (id_of a.entry) (id_of b.entry) }
-{
-    compare_ids(a, b).is_eq()
-}
-
-fn same_object(a: ObjRef<'_>, b: ObjRef<'_>) -> bool
-    ensures { result ≡ same_object (object_of a.entry) (object_of b.entry) }
-{
-    match (a, b) {
-        (ObjRef::Root, ObjRef::Root) => true,
-        (ObjRef::Made(a), ObjRef::Made(b)) => same_id(a, b),
-        _ => false,
-    }
-}
-
 fn same_slot(a: SlotRef<'_>, b: SlotRef<'_>) -> bool
     ensures { result ≡ same_key (slot_shown a.entry) (slot_shown b.entry) }
 {
     match (a, b) {
-        (SlotRef::Name(a), SlotRef::Name(b)) => a == b,
+        (SlotRef::Name(a), SlotRef::Name(b)) => same_bytes(a, b),
         (SlotRef::Head, SlotRef::Head) => true,
         (SlotRef::Elem(a), SlotRef::Elem(b)) => same_id(a, b),
         _ => false,

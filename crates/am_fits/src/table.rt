@@ -14,7 +14,7 @@ use crate::runs::{Run, cut_each, enter, make_room, place_of};
 use crate::seen::{Seen, SlotRef};
 use crate::spans::{Span, drop_last};
 use crate::texts::{number, text_at};
-use am_types::{Change, IdRef, Key, ObjId, ObjRef, Op, OpId};
+use am_types::{Change, IdRef, Key, ObjId, ObjRef, Op, OpId, same_actor};
 use indexmap::IndexSet;
 use std::alloc::{AllocError, Global};
 
@@ -90,7 +90,7 @@ impl Texts {
     {
         let counter = id.counter;
         let actor = id.actor.as_slice();
-        if actor == last.actor {
+        if same_actor(actor, last.actor) {
             return Ok(IdKey {
                 author: last.author,
                 counter,
