@@ -3,13 +3,7 @@ ghost use Rattle.std.specs.Prelude.{◌≡◌, ◌≤◌, ◌^◌};
 ghost use Rattle.am_types.specs.Fine.{pred_count};
 ghost use Rattle.am_fits.specs.Sums.{totals_of, totals_with, limit_of, AreWithinLimits, IsWithinLimits};
 
-use am_types::{Change, Limit, Op};
-
-/// The most changes that a set may have.
-const MOST_CHANGES: u64 = 1 << 20;
-
-/// The most operations that a set may have, and the most predecessors and dependencies.
-const MOST: u64 = 1 << 22;
+use am_types::{Change, Limit, MOST_CHANGES, MOST_OPERATIONS, Op};
 
 /// What the changes of a set have in all.
 #[derive(Clone, Copy, Debug, PartialEq, Eq)]
@@ -45,11 +39,11 @@ impl Totals {
     {
         if self.changes > MOST_CHANGES {
             Some(Limit::Changes)
-        } else if self.operations > MOST {
+        } else if self.operations > MOST_OPERATIONS {
             Some(Limit::Operations)
-        } else if self.preds > MOST {
+        } else if self.preds > MOST_OPERATIONS {
             Some(Limit::Preds)
-        } else if self.links > MOST {
+        } else if self.links > MOST_OPERATIONS {
             Some(Limit::Links)
         } else {
             None
