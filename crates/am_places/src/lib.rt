@@ -1,12 +1,10 @@
 //! The operations of changes in ascending id, and the places of their slots in the order of a document.
 #![tactic(auto)]
 
-mod checked;
 mod line;
 mod numbered;
 mod placed;
 
-pub use checked::checked_operations;
 pub use line::{Line, line_of};
 pub use numbered::{Numbered, ascending_lent, ascending_operations, find, find_near};
 pub use placed::{

@@ -24,7 +24,7 @@ pub struct Line<'a> {
 }
 
 // The insertions among the operations.
-pub(crate) fn insertions<'a>(
+fn insertions<'a>(
     alloc: Global,
     operations: &[Numbered<'a>],
 ) -> Result<Vec<Numbered<'a>>, AllocError>

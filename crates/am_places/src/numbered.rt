@@ -64,10 +64,7 @@ fn push_operations<'a>(all: &mut Vec<Numbered<'a>>, change: &'a Change) -> Resul
 }
 
 // The operations of each of the changes.
-pub(crate) fn gather<'a>(
-    alloc: Global,
-    changes: &'a [Change],
-) -> Result<Vec<Numbered<'a>>, AllocError>
+fn gather<'a>(alloc: Global, changes: &'a [Change]) -> Result<Vec<Numbered<'a>>, AllocError>
     requires room { All HasRoom changes.now }
     ensures { IfOk result (λ all. map operation_of all.items ≡ all_operations changes.now) }
 {
@@ -91,7 +88,7 @@ fn gather_lent<'a>(alloc: Global, changes: &[&'a Change]) -> Result<Vec<Numbered
 }
 
 // In ascending id.
-pub(crate) fn sort_operations(all: &mut Vec<Numbered<'_>>) -> Result<(), AllocError>
+fn sort_operations(all: &mut Vec<Numbered<'_>>) -> Result<(), AllocError>
     ensures { OnOk result (map operation_of all.new.items ≡ ascending (map operation_of all.old.items)) }
 {
     all.sort_by(
