@@ -1,29 +1,32 @@
 -- Items that are unlike their neighbours, pushed at once: what is found in bytes, what the pending run becomes, and where a
 -- cursor stands behind them.
-use Rattle.std.proofs.Common.{◌≡◌, ℕ, suc, zero, ◌+◌, ◌-◌, ◌^◌, ◌<◌, ◌≤◌, List, [], ◌∷◌, ◌++◌, length, take, drop, map, Bool, true, false, cond, Option, Some, None, refl, sym, ap, ◌∙◌, subst, arith, append_assoc, length-append}
-use Rattle.std.specs.Prelude.{replicate}
-use Rattle.std.specs.Option.{IfSome, IfNone}
+use Rattle.std.proofs.Common.{◌≡◌, ℕ, suc, zero, ◌+◌, ◌-◌, ◌^◌, ◌<◌, ◌≤◌, List, [], ◌∷◌, ◌++◌, length, take, drop, map, ℤ, Bool, false, cond, Option, Some, None, refl, sym, ap, ◌∙◌, subst, arith, append_assoc, length-append}
+use Rattle.std.specs.Option.{IfSome, IfNone, option_map}
 use Rattle.std.specs.List.{flat_map, AllByRecursion}
-use Rattle.std.specs.Str.{bytes_eq}
-use Rattle.std.proofs.lemmas.List.{append-nil, take_at, length-replicate, length-map, take-append-drop}
+use Rattle.std.proofs.lemmas.List.{append-nil, map-append, take_at, length-map}
 use Rattle.am_runs.specs.declared.pending.PendingKind.{PendingKind}
 use Rattle.am_runs.specs.declared.pending.PendingKind.TheVariants as pending
 use Rattle.am_runs.specs.declared.place.Kind.TheVariants as kinds
-use Rattle.am_runs.specs.Items.{IsItem, ReadsItems}
+use Rattle.am_leb.specs.Leb.{leb, signed_value}
+use Rattle.am_leb.proofs.Answering.{IsBytes}
+use Rattle.am_runs.specs.Items.{IsItem, ReadsItems, signed_end}
+use Rattle.am_runs.specs.ItemLaws.{signed_reads}
+use Rattle.am_runs.specs.Typed.{AllItems}
 use Rattle.am_runs.specs.Canonical.{NoEqualNeighbours}
 use Rattle.am_runs.specs.Pending.{Holds, written_so_far, IsWriting}
 use Rattle.am_runs.specs.Apart.{AreApart, Took}
 use Rattle.am_runs.specs.Walking.{Place, entries, HasEntries}
-use Rattle.am_runs.specs.Counters.{in_literal}
+use Rattle.am_runs.specs.Counters.{in_literal, entries_from, counted, IsCounted}
 use Rattle.am_runs.proofs.Opening.{joined}
 use Rattle.am_runs.proofs.Holding.{joined-push}
 use Rattle.am_runs.proofs.Pushing.{neighbours_push}
 use Rattle.am_runs.proofs.Arms.{all_push, arm_literal_more}
 use Rattle.am_runs.proofs.Finishing.{shown, open_writing, in_value}
 use Rattle.am_runs.proofs.Alike.{room_for}
-use Rattle.am_runs.proofs.Entries.{entries-step, HasEntries-step, entries-none}
+use Rattle.am_runs.proofs.Entries.{entries-step, HasEntries-step}
 use Rattle.am_runs.proofs.Walks.{item_step}
-use Rattle.am_runs.proofs.Counted.{literal-holds, literal-entries, count-le}
+use Rattle.am_runs.proofs.Counted.{literal-holds, literal-entries, counted_none}
+use Rattle.am_runs.proofs.Spelled.{AllBytes, AllBytes-from, left_bytes, of_literal, respelled, signed_again}
 
 -- ---- what begins the bytes
 
@@ -158,3 +161,32 @@ took_room k more most from mid (Some list) next t l r n = subst (λ v. IfSome v 
 
 pub took_left : {A : Type 0} (k most : ℕ) (from mid : List A) (self next : Option (List A)) → Took k from mid self next → most ≤ length from → most - k ≤ length mid
 took_left k most from mid self next t l = omega (arith, ap length t.2, length-append t.0 mid, t.1)
+
+-- ---- numbers
+
+some_items : (end : List ℕ → Option ℕ) (items : List (List ℕ)) → AllByRecursion (IsItem end) items → AllItems end (map Some items)
+some_items end [] h = tt
+some_items end (x ∷ items) h = (h.0, some_items end items h.1)
+
+pub spelled_again : (bytes : List ℕ) (items : List (List ℕ)) (rest : List ℕ) → IsBytes bytes → AllByRecursion (IsItem signed_end) items → bytes ≡ joined items ++ rest → map (option_map leb) (map (option_map signed_value) (map Some items)) ≡ map Some items
+spelled_again bytes items rest f h e =
+    respelled signed_end signed_value leb signed_again (map Some items) (some_items signed_end items h)
+    (of_literal items (left_bytes (joined items) rest (subst AllBytes e (AllBytes-from bytes f))))
+
+pub numbers_front : (copies literal left : ℕ) (value : Option ℤ) (bytes : List ℕ) (items : List (List ℕ)) (rest : List ℕ) (shown : List (Option ℤ)) → copies ≡ 0 → IsCounted signed_end copies literal left bytes → counted signed_value copies value (entries_from signed_end literal left bytes) ≡ shown → AllByRecursion (IsItem signed_end) items → length items ≤ literal → bytes ≡ joined items ++ rest
+    → (length items ≤ length shown) × (take (length items) shown ≡ map (option_map signed_value) (map Some items))
+numbers_front copies literal left value bytes items rest shown z held s i l e =
+    let h = subst (λ b. HasEntries signed_end (literal + left) (in_literal literal b)) e held.holds in
+    let w = passed signed_end signed_reads items (literal + left) literal rest i l h in
+    let behind = entries signed_end (literal + left - length items) (in_literal (literal - length items) rest) in
+    let front = map (option_map signed_value) (map Some items) in
+    let all : shown ≡ front ++ map (option_map signed_value) behind =
+    sym s ∙ counted_none signed_value copies value (entries_from signed_end literal left bytes) z
+    ∙ ap (map (option_map signed_value)) (ap (λ b. entries signed_end (literal + left) (in_literal literal b)) e ∙ w.shows)
+    ∙ map-append (option_map signed_value) (map Some items) behind in
+    let size : length front ≡ length items = length-map (map Some items) (option_map signed_value) ∙ length-map items Some in
+    (omega (arith, ap length all, length-append front (map (option_map signed_value) behind), size), ap (take (length items)) all ∙ take_at front (map (option_map signed_value) behind) (length items) size)
+
+pub none_front : (items : List (List ℕ)) (shown : List (Option ℤ)) → length items ≤ 0 → (length items ≤ length shown) × (take (length items) shown ≡ map (option_map signed_value) (map Some items))
+none_front [] shown l = (omega arith, refl)
+none_front (x ∷ items) shown l = absurd (omega arith)

@@ -26,7 +26,7 @@ IsBytes-from [] h i = omega arith
 IsBytes-from (b ∷ x) h zero = h.0
 IsBytes-from (b ∷ x) h (suc i) = IsBytes-from x h.1 i
 
-left_bytes : (xs ys : List ℕ) → AllBytes (xs ++ ys) → AllBytes xs
+pub left_bytes : (xs ys : List ℕ) → AllBytes (xs ++ ys) → AllBytes xs
 left_bytes [] ys h = tt
 left_bytes (x ∷ xs) ys h = (h.0, left_bytes xs ys h.1)
 
@@ -34,7 +34,7 @@ right_bytes : (xs ys : List ℕ) → AllBytes (xs ++ ys) → AllBytes ys
 right_bytes [] ys h = h
 right_bytes (x ∷ xs) ys h = right_bytes xs ys h.1
 
-abbrev AllOf : List (Option (List ℕ)) → Type 0
+abbrev pub AllOf : List (Option (List ℕ)) → Type 0
 AllOf list = AllByRecursion (λ entry. IfSome entry AllBytes) list
 
 of_append : (xs ys : List (Option (List ℕ))) → AllOf xs → AllOf ys → AllOf (xs ++ ys)
@@ -45,7 +45,7 @@ of_repeat : (n : ℕ) (x : Option (List ℕ)) → IfSome x AllBytes → AllOf (r
 of_repeat zero x h = tt
 of_repeat (suc n) x h = (h, of_repeat n x h)
 
-of_literal : (items : List (List ℕ)) → AllBytes (joined items) → AllOf (map Some items)
+pub of_literal : (items : List (List ℕ)) → AllBytes (joined items) → AllOf (map Some items)
 of_literal [] h = tt
 of_literal (x ∷ xs) h = (left_bytes x (joined xs) h, of_literal xs (right_bytes x (joined xs) h))
 
@@ -63,7 +63,7 @@ pub bytes_of_entries : (end : List ℕ → Option ℕ) (bytes : List ℕ) (list 
 bytes_of_entries end bytes list f j = subst AllOf (sym j.3) (of_runs j.0 (subst AllBytes j.2 (AllBytes-from bytes f)))
 
 -- where each item is the spelling of what it spells, so are the entries
-respelled : {A : Type 0} (end : List ℕ → Option ℕ) (read : List ℕ → A) (spell : A → List ℕ) → ((x : List ℕ) → IsBytes x → IsItem end x → spell (read x) ≡ x) → (list : List (Option (List ℕ))) → AllItems end list → AllOf list → map (option_map spell) (map (option_map read) list) ≡ list
+pub respelled : {A : Type 0} (end : List ℕ → Option ℕ) (read : List ℕ → A) (spell : A → List ℕ) → ((x : List ℕ) → IsBytes x → IsItem end x → spell (read x) ≡ x) → (list : List (Option (List ℕ))) → AllItems end list → AllOf list → map (option_map spell) (map (option_map read) list) ≡ list
 respelled end read spell f [] p q = refl
 respelled end read spell f (None ∷ list) p q = ap (λ l. None ∷ l) (respelled end read spell f list p.1 q.1)
 respelled end read spell f (Some x ∷ list) p q =
@@ -73,7 +73,7 @@ respelled end read spell f (Some x ∷ list) p q =
 unsigned_again : (x : List ℕ) → IsBytes x → IsItem unsigned_end x → uleb (unsigned_value x) ≡ x
 unsigned_again x f e = let w = unsigned_is x f e in ap uleb (ap unsigned_value w.2 ∙ unsigned_value-uleb w.0) ∙ sym w.2
 
-signed_again : (x : List ℕ) → IsBytes x → IsItem signed_end x → leb (signed_value x) ≡ x
+pub signed_again : (x : List ℕ) → IsBytes x → IsItem signed_end x → leb (signed_value x) ≡ x
 signed_again x f e = let w = signed_is x f e in ap leb (ap signed_value w.2 ∙ signed_value-leb w.0) ∙ sym w.2
 
 text_again : (x : List ℕ) → IsBytes x → IsItem text_end x → text_spelling (text_of x) ≡ x

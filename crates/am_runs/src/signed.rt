@@ -1,6 +1,9 @@
 //! A cursor over the signed numbers of a column.
-ghost use Rattle.std.specs.Prelude.{◌≡◌, ◌<◌, ◌≤◌, ◌++◌, ◌∷◌, [], ℤ, List, Option, length, take, drop, IfOk, IfSome, IfNone, OnErr, replicate};
-ghost use Rattle.am_runs.specs.Items.{signed_end};
+ghost use Rattle.std.specs.Prelude.{◌≡◌, ◌<◌, ◌≤◌, ◌++◌, ◌∷◌, [], ℕ, ℤ, List, Option, Some, length, map, take, drop, IfOk, IfSome, IfNone, OnErr, replicate};
+ghost use Rattle.std.specs.List.{AllByRecursion, flat_map};
+ghost use Rattle.std.specs.Option.{option_map};
+ghost use Rattle.am_leb.specs.Leb.{signed_value};
+ghost use Rattle.am_runs.specs.Items.{IsItem, signed_end};
 ghost use Rattle.am_runs.specs.Typed.{AllItems, JoinsSigned, signed_numbers};
 
 use crate::counters::{Counters, counters_of, runs_from};
@@ -129,6 +132,17 @@ impl<'a> SignedCursor<'a> {
             None => None,
             Some(value) => Some((value, 1)),
         }
+    }
+
+    // How many items of a literal run come next, and the bytes that they begin. While there are copies, none does.
+    pub(crate) fn literal(&self) -> (u64, &'a [u8])
+        ensures { (items : List (List ℕ)) (rest : List ℕ) → AllByRecursion (IsItem signed_end) items → length items ≤ result.0 → result.1.now ≡ flat_map (λ item. item) items ++ rest
+            → (length items ≤ length self.now) × (take (length items) self.now ≡ map (option_map signed_value) (map Some items)) }
+    {
+        if self.at.copies > 0 {
+            return (0, self.at.rest);
+        }
+        (self.at.literal, self.at.rest)
     }
 
     /// The next number, which may be null; nothing at the end.
