@@ -57,11 +57,11 @@ steps_shown value d first end x (suc j) list new i l f n e =
 
 -- ---- what a writer holds
 
-numbers_both : (xs ys : List (Option (List ℕ))) → signed_numbers (xs ++ ys) ≡ signed_numbers xs ++ signed_numbers ys
+pub numbers_both : (xs ys : List (Option (List ℕ))) → signed_numbers (xs ++ ys) ≡ signed_numbers xs ++ signed_numbers ys
 numbers_both [] ys = refl
 numbers_both (x ∷ xs) ys = ap (λ l. option_map signed_value x ∷ l) (numbers_both xs ys)
 
-spellings_both : (xs ys : List (Option ℤ)) → map (option_map leb) (xs ++ ys) ≡ map (option_map leb) xs ++ map (option_map leb) ys
+pub spellings_both : (xs ys : List (Option ℤ)) → map (option_map leb) (xs ++ ys) ≡ map (option_map leb) xs ++ map (option_map leb) ys
 spellings_both [] ys = refl
 spellings_both (x ∷ xs) ys = ap (λ l. option_map leb x ∷ l) (spellings_both xs ys)
 
@@ -70,23 +70,23 @@ numbers_more list d k =
     numbers_both list (replicate k (option_map leb d))
     ∙ ap (λ l. signed_numbers list ++ l) (map_replicate (option_map signed_value) k (option_map leb d) ∙ ap (replicate k) (value_back d))
 
-sums_more : (sum : ℤ) (ds es : List (Option ℤ)) → sums_from sum (ds ++ es) ≡ sums_from sum ds ++ sums_from (last_from sum (sums_from sum ds)) es
+pub sums_more : (sum : ℤ) (ds es : List (Option ℤ)) → sums_from sum (ds ++ es) ≡ sums_from sum ds ++ sums_from (last_from sum (sums_from sum ds)) es
 sums_more sum [] es = refl
 sums_more sum (None ∷ ds) es = ap (λ l. None ∷ l) (sums_more sum ds es)
 sums_more sum (Some d ∷ ds) es = ap (λ l. Some (sum +ℤ d) ∷ l) (sums_more (sum +ℤ d) ds es)
 
-last_more : (last : ℤ) (xs ys : List (Option ℤ)) → last_from last (xs ++ ys) ≡ last_from (last_from last xs) ys
+pub last_more : (last : ℤ) (xs ys : List (Option ℤ)) → last_from last (xs ++ ys) ≡ last_from (last_from last xs) ys
 last_more last [] ys = refl
 last_more last (None ∷ xs) ys = last_more last xs ys
 last_more last (Some v ∷ xs) ys = last_more v xs ys
 
-last_steps : (last : ℤ) (d : Option ℤ) (k : ℕ) → last_from last (sums_from last (replicate k d)) ≡ sum_after last d k
+pub last_steps : (last : ℤ) (d : Option ℤ) (k : ℕ) → last_from last (sums_from last (replicate k d)) ≡ sum_after last d k
 last_steps last None zero = refl
 last_steps last None (suc k) = last_steps last None k
 last_steps last (Some d) zero = let e : last ≡ last +ℤ pos 0 *ℤ d = omega (arith, ints, way-none d) in e
 last_steps last (Some d) (suc k) = last_steps (last +ℤ d) (Some d) k ∙ sym (one_less last d (last +ℤ d) k refl)
 
-last_middling : (last : ℤ) (values : List (Option ℤ)) → IsMiddling last → AreMiddling values → IsMiddling (last_from last values)
+pub last_middling : (last : ℤ) (values : List (Option ℤ)) → IsMiddling last → AreMiddling values → IsMiddling (last_from last values)
 last_middling last [] h a = h
 last_middling last (None ∷ values) h a = last_middling last values h a.1
 last_middling last (Some v ∷ values) h a = last_middling v values a.0 a.1

@@ -1,6 +1,6 @@
 //! A cursor over the values of a column of deltas. It takes no memory.
 ghost use Rattle.std.specs.Prelude.{◌≡◌, ◌<◌, ◌≤◌, ◌++◌, ◌∷◌, [], ℤ, List, Option, None, length, drop, IfOk, IfSome, IfNone, OnErr};
-ghost use Rattle.am_delta.specs.Deltas.{JoinsDeltas, AllBetween, AllFit, stretch};
+ghost use Rattle.am_delta.specs.Deltas.{JoinsDeltas, AllBetween, AllFit, sums_from, stretch};
 
 use crate::arithmetic::sum_of;
 use crate::between::stays_between;
@@ -85,6 +85,22 @@ impl<'a> DeltaCursor<'a> {
         ensures { self.new ≡ drop n self.old }
     {
         self.value = skipped(&mut self.differences, self.value, n);
+    }
+
+    // The differences that are left, and the value that they go on from.
+    pub(crate) fn parts(&self) -> (SignedCursor<'a>, i64)
+        ensures fit { AllFit (sums_from result.1 result.0) }
+        ensures values { self.now ≡ sums_from result.1 result.0 }
+    {
+        (self.differences.again(), self.value)
+    }
+
+    // The cursor over the values of these differences, on from this value.
+    pub(crate) fn from_parts(differences: SignedCursor<'a>, value: i64) -> Self
+        requires { AllFit (sums_from value differences) }
+        ensures { result ≡ sums_from value differences.entry }
+    {
+        DeltaCursor { differences, value }
     }
 
     /// The next values, at most so many, where each is as far above the one before it: the first, the difference and how

@@ -1,7 +1,7 @@
 //! Going on by many differences at once.
-ghost use Rattle.std.specs.Prelude.{◌≡◌, drop, FitsSigned};
+ghost use Rattle.std.specs.Prelude.{◌≡◌, take, drop, FitsSigned};
 ghost use Rattle.std.specs.Int.{w64};
-ghost use Rattle.am_delta.specs.Deltas.{AllFit, sums_from, sum_after};
+ghost use Rattle.am_delta.specs.Deltas.{AllFit, sums_from, last_from, sum_after};
 
 use crate::arithmetic::times;
 use am_runs::SignedCursor;
@@ -28,6 +28,7 @@ pub fn skipped(differences: &mut SignedCursor<'_>, value: i64, n: u64) -> i64
     requires { AllFit (sums_from value differences.old) }
     ensures fit { AllFit (sums_from result differences.new) }
     ensures drops { sums_from result differences.new ≡ drop n (sums_from value differences.old) }
+    ensures last { result ≡ last_from value (sums_from value (take n differences.old)) }
 {
     let mut value = value;
     let mut n = n;

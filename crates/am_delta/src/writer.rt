@@ -3,9 +3,10 @@ ghost use Rattle.std.specs.Prelude.{◌≡◌, ◌<◌, ◌≤◌, ◌∷◌, []
 ghost use Rattle.am_delta.specs.Deltas.{CanonDeltas, IsMiddling, less, or_last, steps, AreMiddling, canonical_delta_bytes};
 ghost use Rattle.std.specs.Option.{option_map};
 ghost use Rattle.am_leb.specs.Leb.{leb};
+ghost use Rattle.am_runs.specs.Apart.{Took};
 
 use crate::cursor::DeltaCursor;
-use crate::skipping::value_after;
+use crate::skipping::{skipped, value_after};
 use am_leb::push_i;
 use am_runs::{RunWriter, SignedItem};
 use am_types::Bytes;
@@ -154,8 +155,59 @@ impl DeltaWriter {
         self.push_steps(None, count)
     }
 
+    // Takes values whose differences can be copied at once: those that the cursor goes on by from the last value.
+    fn take_differences(&mut self, from: &mut DeltaCursor<'_>, most: u64) -> Result<u64, AllocError>
+        requires some { 0 < most }
+        requires room { IfSome self.old (λ list. length list + most ≤ 2 ^ 32) }
+        requires values { AreMiddling from.old }
+        ensures failed { IfNone self.old (self.new ≡ None) }
+        ensures few { IfOk result (λ k. k ≤ most) }
+        ensures ok { IfOk result (λ k. Took k from.old from.new self.old self.new) }
+        ensures err { OnErr result (self.new ≡ None) }
+    {
+        if self.failed {
+            return Err(AllocError);
+        }
+        let (mut differences, value) = from.parts();
+        if self.last != value {
+            return Ok(0);
+        }
+        self.failed = true;
+        let k = self.differences.push_next(&differences, most)?;
+        let last = skipped(&mut differences, value, k);
+        *from = DeltaCursor::from_parts(differences, last);
+        self.last = last;
+        self.failed = false;
+        Ok(k)
+    }
+
+    // Takes the next values, one at least.
+    fn take_some(&mut self, from: &mut DeltaCursor<'_>, most: u64) -> Result<u64, AllocError>
+        requires some { 0 < most }
+        requires room { IfSome self.old (λ list. length list + most ≤ 2 ^ 32) }
+        requires enough { most ≤ length from.old }
+        requires values { AreMiddling from.old }
+        ensures failed { IfNone self.old (self.new ≡ None) }
+        ensures some { IfOk result (λ k. (1 ≤ k) × (k ≤ most)) }
+        ensures ok { IfOk result (λ k. Took k from.old from.new self.old self.new) }
+        ensures err { OnErr result (self.new ≡ None) }
+    {
+        let k = self.take_differences(from, most)?;
+        if k == most {
+            return Ok(k);
+        }
+        match from.next_stretch(most - k) {
+            None => Ok(k),
+            Some((first, difference, count)) => {
+                self.push(first)?;
+                self.push_steps(difference, count - 1)?;
+                Ok(k + count)
+            }
+        }
+    }
+
     /// Takes the next n values out of the cursor, as that many pushes. Values that rise alike cost a few steps, however
-    /// many they are.
+    /// many they are; of others the differences are copied together.
     pub fn take(&mut self, from: &mut DeltaCursor<'_>, n: u64) -> Result<(), AllocError>
         requires room { IfSome self.old (λ list. length list + n ≤ 2 ^ 32) }
         requires enough { n ≤ length from.old }
@@ -167,14 +219,7 @@ impl DeltaWriter {
     {
         let mut left = n;
         while left > 0 {
-            match from.next_stretch(left) {
-                None => return Ok(()),
-                Some((first, difference, count)) => {
-                    self.push(first)?;
-                    self.push_steps(difference, count - 1)?;
-                    left -= count;
-                }
-            }
+            left -= self.take_some(from, left)?;
         }
         Ok(())
     }

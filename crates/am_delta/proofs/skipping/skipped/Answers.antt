@@ -2,6 +2,7 @@ use Rattle.std.proofs.Common.{arith, rules, sym, ap, ◌∙◌, ◌≤◌, ◌-�
 use Rattle.std.proofs.lemmas.Int.{to_z-of_z}
 use Rattle.am_delta.specs.Deltas.{AllFit, sums_from}
 use Rattle.am_delta.proofs.Sums.{fits_after, skips, passed, alike_taken}
+use Rattle.am_delta.proofs.Copying.{last_skips}
 use Rattle.am_delta.proofs.skipping.skipped.Goals as goal
 
 pub value_after-value-requires : goal.value_after-value-requires
@@ -18,5 +19,8 @@ loop-n-preserved c =
     let end = c.value_after-value.result in
     let fits : FitsSigned w64 end = search rules in
     let part = alike_taken k c.in-Some.difference c.loop-n.differences _ c.in-Some.ensures.next.2 in
-    let w = skips _ (passed end) (passed c.args.value) c.in-Some.difference k k c.loop-n.n c.args.n c.loop-n.differences c.args.differences.now (to_z-of_z w64 end fits ∙ c.value_after-value.ensures) least c.in-Some.ensures.next.1 part.0 c.loop-n.invariant.0 c.loop-n.invariant.1 in
-    (subst (λ l. AllFit (sums_from (passed end) l)) part.1 w.0, ap (λ l. drop (c.loop-n.n - k) (sums_from (passed end) l)) (sym part.1) ∙ w.1)
+    let w = skips _ (passed end) (passed c.args.value) c.in-Some.difference k k c.loop-n.n c.args.n c.loop-n.differences c.args.differences.now (to_z-of_z w64 end fits ∙ c.value_after-value.ensures) least c.in-Some.ensures.next.1 part.0 c.loop-n.invariant.0 c.loop-n.invariant.1 in (
+      subst (λ l. AllFit (sums_from (passed end) l)) part.1 w.0,
+      ap (λ l. drop (c.loop-n.n - k) (sums_from (passed end) l)) (sym part.1) ∙ w.1,
+      last_skips _ (passed end) c.in-Some.difference k c.loop-n.n c.loop-n.differences _ (to_z-of_z w64 end fits ∙ c.value_after-value.ensures) c.in-Some.ensures.next.1 c.in-Some.ensures.next.2 ∙ c.loop-n.invariant.2,
+    )
