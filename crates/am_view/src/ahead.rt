@@ -5,9 +5,11 @@ ghost use Rattle.am_view.specs.Borrowed.{with_first, coming};
 ghost use Rattle.am_view.specs.Steps.{later, ahead, not_below, addend};
 ghost use Rattle.am_view.specs.Totals.{IsWithin};
 
-use crate::slots::{is_same_id, is_same_key, is_same_object, slot_of};
+use crate::slots::slot_of;
 use am_doccols::RowCursor;
-use am_types::{IdRef, KeyRef, ObjRef, ValueRef, compare_ids, slice_known};
+use am_types::{
+    IdRef, KeyRef, ObjRef, ValueRef, compare_ids, same_id, same_key, same_object, slice_known,
+};
 use am_values::amount_of;
 
 /// What a row is to those in front of it in its slot.
@@ -32,7 +34,7 @@ fn first_of<'a>(obj: ObjRef<'a>, slot: KeyRef<'a>, rest: &mut RowCursor<'a>) -> 
     ensures { map later (ahead (object_of obj.entry) (key_of slot.entry) rest.old) ≡ with_first result (map later (ahead (object_of obj.entry) (key_of slot.entry) rest.new)) }
 {
     let row = rest.next()?;
-    if is_same_object(row.obj, obj) && is_same_key(slot_of(row.insert, row.key, row.id), slot) {
+    if same_object(row.obj, obj) && same_key(slot_of(row.insert, row.key, row.id), slot) {
         Some(LaterRef {
             id: row.id,
             action: row.action,
@@ -76,7 +78,7 @@ impl<'a> Ahead<'a> {
         ensures bounded { IsWithin 1 result }
     {
         match self.first {
-            Some(first) if is_same_id(first.id, id) && first.action == 5 => {
+            Some(first) if same_id(first.id, id) && first.action == 5 => {
                 slice_known(first.value.raw);
                 Some(amount_of(first.value))
             }

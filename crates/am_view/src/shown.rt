@@ -11,6 +11,7 @@ ghost use Rattle.am_types.specs.Views.{entry_of};
 ghost use Rattle.am_graph.specs.Clocks.{covers, IsClockOf};
 ghost use Rattle.am_view.specs.Steps.{walk};
 
+use crate::asked::Asked;
 use crate::tally::entry_of;
 use am_doc::DocRef;
 use am_doccols::RowCursor;
@@ -23,7 +24,7 @@ use std::marker::Model;
 #[derive(Drop)]
 pub struct Shown<'a> {
     rows: RowCursor<'a>,
-    clock: &'a Clock,
+    clock: Asked<'a>,
 }
 
 impl<'a> Model for Shown<'a> {
@@ -35,7 +36,7 @@ impl<'a> Model for Shown<'a> {
     ghost use Rattle.am_graph.specs.Clocks.{covers};
     ghost use Rattle.am_view.specs.Steps.{walk};
 
-    ghost view = { λ s. walk (covers s.clock.now) s.rows };
+    ghost view = { λ s. walk (covers s.clock) s.rows };
 }
 
 impl<'a> Shown<'a> {
@@ -48,7 +49,7 @@ impl<'a> Shown<'a> {
     {
         Shown {
             rows: doc.rows(),
-            clock,
+            clock: Asked::of(clock),
         }
     }
 
@@ -58,7 +59,7 @@ impl<'a> Shown<'a> {
         ensures next { IfSome result (λ entry. self.old ≡ entry_of entry ∷ self.new) }
     {
         while let Some(row) = self.rows.next() {
-            if let Some(entry) = entry_of(self.clock, &row, &self.rows) {
+            if let Some(entry) = entry_of(&mut self.clock, &row, &self.rows) {
                 return Some(entry);
             }
         }

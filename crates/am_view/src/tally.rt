@@ -10,15 +10,16 @@ ghost use Rattle.am_view.specs.Steps.{tally, left_of, standing, entry_at};
 ghost use Rattle.am_view.specs.Totals.{IsBounded};
 
 use crate::ahead::Ahead;
+use crate::asked::Asked;
 use crate::slots::slot_of;
 use am_doccols::{RowCursor, RowRef, SuccCursor};
-use am_graph::Clock;
 use am_types::{EntryRef, slice_known};
 use am_values::amount_of;
 
 /// Whether one of the successors is covered.
-pub fn is_any_covered(clock: &Clock, succs: SuccCursor<'_>) -> bool
-    ensures { result ≡ list_any (covers clock.now) succs.entry }
+pub fn is_any_covered<'a>(clock: &mut Asked<'a>, succs: SuccCursor<'a>) -> bool
+    ensures same { clock.new ≡ clock.old }
+    ensures covered { result ≡ list_any (covers clock.old) succs.entry }
 {
     let mut succs = succs;
     while let Some(succ) = succs.next() {
@@ -41,14 +42,15 @@ fn sum(total: i128, more: i128) -> i128
 /// The first amount with what the covered successors add, which are sought ahead; None where one of them is no increment
 /// and so removes the counter.
 pub fn tally<'a>(
-    clock: &Clock,
+    clock: &mut Asked<'a>,
     first: i128,
     succs: SuccCursor<'a>,
     ahead: Ahead<'a>,
 ) -> Option<i128>
     requires bounded { IsBounded 1 first }
     requires few { length succs ≤ 2 ^ 22 }
-    ensures { result ≡ tally (covers clock.now) first succs.entry (coming ahead.entry) }
+    ensures same { clock.new ≡ clock.old }
+    ensures total { result ≡ tally (covers clock.old) first succs.entry (coming ahead.entry) }
 {
     let mut succs = succs;
     let mut ahead = ahead;
@@ -81,9 +83,10 @@ fn is_counter(row: &RowRef<'_>) -> bool
 
 // What a row stands at that gives an entry, where the rest of the rows stands behind it; None where something removes it.
 // Only for a counter a copy of the cursor looks ahead.
-fn left_of<'a>(clock: &Clock, row: &RowRef<'a>, rest: &RowCursor<'a>) -> Option<i128>
+fn left_of<'a>(clock: &mut Asked<'a>, row: &RowRef<'a>, rest: &RowCursor<'a>) -> Option<i128>
     requires few { length row.now.succs ≤ 2 ^ 22 }
-    ensures { result ≡ left_of (covers clock.now) (row_of row.now) rest.now }
+    ensures same { clock.new ≡ clock.old }
+    ensures left { result ≡ left_of (covers clock.old) (row_of row.now) rest.now }
 {
     if is_counter(row) {
         let slot = slot_of(row.insert, row.key, row.id);
@@ -99,9 +102,14 @@ fn left_of<'a>(clock: &Clock, row: &RowRef<'a>, rest: &RowCursor<'a>) -> Option<
 
 /// The entry of a row, where the rest of the rows stands behind it; None where it isn't shown. Most rows that aren't shown
 /// were removed, so that is asked first.
-pub fn entry_of<'a>(clock: &Clock, row: &RowRef<'a>, rest: &RowCursor<'a>) -> Option<EntryRef<'a>>
+pub fn entry_of<'a>(
+    clock: &mut Asked<'a>,
+    row: &RowRef<'a>,
+    rest: &RowCursor<'a>,
+) -> Option<EntryRef<'a>>
     requires few { length row.now.succs ≤ 2 ^ 22 }
-    ensures { option_map entry_of result ≡ option_map (entry_at (row_of row.now)) (standing (covers clock.now) (row_of row.now) rest.now) }
+    ensures same { clock.new ≡ clock.old }
+    ensures entry { option_map entry_of result ≡ option_map (entry_at (row_of row.now)) (standing (covers clock.old) (row_of row.now) rest.now) }
 {
     if !gives_entry(row) {
         return None;

@@ -33,7 +33,7 @@ loop-id-preserved-in-Some-addend c =
     let result_fits : SFits w128 c.sum-total.result = record { sfits = c.sum-total.type_inv } in
     let sum : c.sum-total.result ≡ total +ℤ more = c.sum-total.ensures ∙ ap (λ z. total +ℤ z) (to_z-of_z w128 more more_fits) in
     let is : to_z w128 (of_z w128 c.sum-total.result) ≡ total +ℤ more = to_z-of_z w128 c.sum-total.result result_fits ∙ sum in
-    let covered : covers c.args.clock.now (id_of c.in-Some.id) ≡ true = sym c.covers.ensures.clock ∙ c.if-covers.true in
+    let covered : covers c.args.clock.now (id_of c.in-Some.id) ≡ true = ap (λ k. covers k (id_of c.in-Some.id)) (sym inv.3) ∙ sym c.covers.ensures.clock ∙ c.if-covers.true in
     let step = tally_step (covers c.args.clock.now) total more (id_of c.in-Some.id) new (coming c.loop-id.ahead) (coming c.pass_below.new.self) covered c.pass_below.ensures (sym c.addend.ensures.adds ∙ some) in
     let shifted = ap (λ ids. tally (covers c.args.clock.now) total ids (coming c.loop-id.ahead)) (sym c.in-Some.ensures.next) in
     let bounded : IsBounded (2 ^ 22 + 1 - length old + 1) (total +ℤ more) = bounded_sum (2 ^ 22 + 1 - length old) total more inv.2 more_bounded in
@@ -41,6 +41,7 @@ loop-id-preserved-in-Some-addend c =
       ap (λ t. tally (covers c.args.clock.now) t new (coming c.pass_below.new.self)) is ∙ sym step ∙ shifted ∙ inv.0,
       omega arith,
       subst (IsBounded (2 ^ 22 + 1 - length new)) (sym is) (bounded_more (2 ^ 22 + 1 - length old + 1) (2 ^ 22 + 1 - length new) (total +ℤ more) (omega arith) bounded),
+      c.covers.ensures.same ∙ inv.3,
     )
 
 pub loop-id-preserved : goal.loop-id-preserved
@@ -50,11 +51,12 @@ loop-id-preserved c =
     let old = c.loop-id.succs in
     let new = c.next.new.self in
     let count : length old ≡ suc (length new) = ap length c.in-Some.ensures.next in
-    let uncovered : covers c.args.clock.now (id_of c.in-Some.id) ≡ false = sym c.covers.ensures.clock ∙ c.if-covers.false in
+    let uncovered : covers c.args.clock.now (id_of c.in-Some.id) ≡ false = ap (λ k. covers k (id_of c.in-Some.id)) (sym inv.3) ∙ sym c.covers.ensures.clock ∙ c.if-covers.false in
     let skip = tally_skip (covers c.args.clock.now) total (id_of c.in-Some.id) new (coming c.loop-id.ahead) uncovered in
     let shifted = ap (λ ids. tally (covers c.args.clock.now) total ids (coming c.loop-id.ahead)) (sym c.in-Some.ensures.next) in
     let few = inv.1 in (
       sym skip ∙ shifted ∙ inv.0,
       omega arith,
       bounded_more (2 ^ 22 + 1 - length old) (2 ^ 22 + 1 - length new) total (omega arith) inv.2,
+      c.covers.ensures.same ∙ inv.3,
     )

@@ -7,9 +7,10 @@ use Rattle.am_view.proofs.tally.tally.Given as goal
 
 abbrev pub invariant-loop-id : goal.invariant-loop-id
 invariant-loop-id l =
-    (tally (covers l.clock) l.total l.succs (coming l.ahead) ≡ tally (covers l.fn.clock) l.fn.first l.fn.succs (coming l.fn.ahead))
+    (tally (covers l.initial.clock) l.total l.succs (coming l.ahead) ≡ tally (covers l.initial.clock) l.fn.first l.fn.succs (coming l.fn.ahead))
     × (length l.succs ≤ 2 ^ 22)
     × IsBounded (2 ^ 22 + 1 - length l.succs) l.total
+    × (l.clock ≡ l.initial.clock)
 
 abbrev pub decreases-loop-id : goal.decreases-loop-id
 decreases-loop-id l = length l.succs

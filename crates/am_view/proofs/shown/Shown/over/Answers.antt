@@ -5,4 +5,7 @@ use Rattle.am_view.proofs.ClockTests.{walk_is_replay}
 use Rattle.am_view.proofs.shown.Shown.over.Goals as goal
 
 pub returns-clause-replay : goal.returns-clause-replay
-returns-clause-replay c C heads v is clock = ap (walk (covers c.args.clock.now)) (c.rows.ensures ∙ is) ∙ walk_is_replay C heads v c.args.clock.now clock
+returns-clause-replay c C heads v is clock =
+    ap (λ k. walk (covers k) c.rows.result) c.of.ensures
+    ∙ ap (walk (covers c.args.clock.now)) (c.rows.ensures ∙ is)
+    ∙ walk_is_replay C heads v c.args.clock.now clock
