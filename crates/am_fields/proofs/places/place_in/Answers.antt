@@ -1,7 +1,7 @@
 use Rattle.std.proofs.Common.{◌≡◌, suc, ◌+◌, ◌<◌, length, drop, true, false, sym, ◌∙◌, arith, rules, get_or}
 use Rattle.std.specs.Cmp.Lexicographic.{texts_ties}
 use Rattle.am_types.specs.Same.{same_bytes}
-use Rattle.am_fields.specs.Columns.{is_actor, place_of}
+use Rattle.am_fields.specs.Columns.{place_of}
 use Rattle.am_fields.proofs.PlaceLaws.{place-here, place-next-at}
 use Rattle.am_fields.proofs.places.place_in.Goals as goal
 

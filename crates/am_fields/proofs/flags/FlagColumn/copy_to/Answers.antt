@@ -20,7 +20,7 @@ returns-clause-ok c =
     let alike = c.self.inside.alike in
     let first = take-behind c.args.n alike c.self.inside.flag c.self.inside.behind (omega arith) ∙ ap (take c.args.n) c.self.view_is in
     appended_both c.args.to.now c.push_alike-2.new.self c.copy_to.new.to (replicate alike c.self.inside.flag) (take (c.args.n - alike) c.again-from.result) (take c.args.n c.args.self.now)
-        c.in_ok-push_alike-2.ensures.ok c.in_ok-copy_to.ensures.ok (ap (λ l. replicate alike c.self.inside.flag ++ take (c.args.n - alike) l) c.again-from.ensures ∙ first)
+    c.in_ok-push_alike-2.ensures.ok c.in_ok-copy_to.ensures.ok (ap (λ l. replicate alike c.self.inside.flag ++ take (c.args.n - alike) l) c.again-from.ensures ∙ first)
 
 pub returns-clause-behind : goal.returns-clause-behind
 returns-clause-behind c =

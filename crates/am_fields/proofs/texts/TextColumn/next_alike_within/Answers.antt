@@ -1,0 +1,10 @@
+use Rattle.std.proofs.Common.{◌≤◌, arith, sym, ◌∙◌}
+use Rattle.std.specs.Prelude.{option_map}
+use Rattle.std.proofs.lemmas.Grind.{common_steps}
+use Rattle.am_fields.proofs.Ahead.{split-ahead}
+use Rattle.am_fields.proofs.texts.TextColumn.next_alike_within.Goals as goal
+
+pub returns-then-self-gt0-clause-next : goal.returns-then-self-gt0-clause-next
+returns-then-self-gt0-clause-next c =
+    let few : c.min-count.result ≤ c.self.inside.alike = grind (arith, common_steps) in
+    sym c.self.view_is ∙ split-ahead c.min-count.result c.self.inside.alike (option_map (λ s. s.now) c.self.inside.item) c.self.inside.behind few
