@@ -1,9 +1,9 @@
 -- Values that rise alike: what a cursor hands out of them, and what a writer holds behind them.
-use Rattle.std.proofs.Common.{◌≡◌, ℕ, suc, zero, ◌-◌, ◌+◌, ◌<◌, ◌≤◌, ◌^◌, List, [], ◌∷◌, ◌++◌, length, take, map, Bool, false, Option, Some, None, ℤ, pos, ◌+ℤ◌, ◌*ℤ◌, refl, sym, ap, ◌∙◌, subst, arith, append_assoc, length-append, FitsSigned, w64}
+use Rattle.std.proofs.Common.{◌≡◌, ℕ, suc, zero, ◌-◌, ◌+◌, ◌≤◌, ◌^◌, List, [], ◌∷◌, ◌++◌, length, map, Bool, false, Option, Some, None, ℤ, pos, ◌+ℤ◌, ◌*ℤ◌, refl, sym, ap, ◌∙◌, subst, arith, append_assoc, FitsSigned, w64}
 use Rattle.std.specs.Prelude.{replicate, Result, Ok, Err, OnOk}
 use Rattle.std.specs.Option.{IfSome, IfNone, option_map}
 use Rattle.std.proofs.lemmas.Int.{ints}
-use Rattle.std.proofs.lemmas.List.{length-map, length-replicate, length-take-le}
+use Rattle.std.proofs.lemmas.List.{length-map, length-replicate}
 use Rattle.am_leb.specs.Leb.{leb, signed_value}
 use Rattle.am_runs.specs.Typed.{signed_numbers}
 use Rattle.am_runs.proofs.Spelled.{map_replicate}
@@ -173,19 +173,7 @@ stretched (Some list) next last first d k l i p q =
     let all : last ≡ Some ((list ++ first ∷ []) ++ steps (list ++ first ∷ []) d (k - 1)) = subst (λ v. IfSome v (λ list. last ≡ Some (list ++ steps list d (k - 1)))) p q in
     all ∙ ap Some (append_assoc list (first ∷ []) (steps (list ++ first ∷ []) d (k - 1)) ∙ ap (λ x. list ++ x) (sym (stretch_is list first d k l i)))
 
--- ---- room
-
-pub room_first : (value self : Option (List (Option ℤ))) (whole : List (Option ℤ)) (n left : ℕ) → 1 ≤ left → left ≤ n → n ≤ length whole → IfSome value (λ list. length list + n ≤ 2 ^ 32) → IfNone value (self ≡ None) → IfSome value (λ list. self ≡ Some (list ++ take (n - left) whole)) → IfSome self (λ list. length list < 2 ^ 32)
-room_first None self whole n left l le e r i w = subst (λ v. IfSome v (λ list. length list < 2 ^ 32)) (sym i) tt
-room_first (Some list) self whole n left l le e r i w =
-    subst (λ v. IfSome v (λ list. length list < 2 ^ 32)) (sym w)
-    (omega (arith, r, length-append list (take (n - left) whole), length-take-le (n - left) whole (omega arith)))
-
-pub room_steps : (value self next : Option (List (Option ℤ))) (whole : List (Option ℤ)) (first : Option ℤ) (n left k : ℕ) → 1 ≤ k → k ≤ left → left ≤ n → n ≤ length whole → IfSome value (λ list. length list + n ≤ 2 ^ 32) → IfNone value (self ≡ None) → IfSome value (λ list. self ≡ Some (list ++ take (n - left) whole)) → IfNone self (next ≡ None) → IfSome self (λ list. next ≡ Some (list ++ first ∷ [])) → IfSome next (λ list. length list + (k - 1) ≤ 2 ^ 32)
-room_steps None self next whole first n left k l kl le e r i w j p = subst (λ v. IfSome v (λ list. length list + (k - 1) ≤ 2 ^ 32)) (sym (subst (λ v. IfNone v (next ≡ None)) i j)) tt
-room_steps (Some list) self next whole first n left k l kl le e r i w j p =
-    subst (λ v. IfSome v (λ list. length list + (k - 1) ≤ 2 ^ 32)) (sym (subst (λ v. IfSome v (λ list. next ≡ Some (list ++ first ∷ []))) w p))
-    (omega (arith, r, length-append list (take (n - left) whole), length-append (list ++ take (n - left) whole) (first ∷ []), length-take-le (n - left) whole (omega arith)))
+-- ---- memory that was wanted
 
 pub none_both : (self new : Option (List (Option ℤ))) (P : Type 0) → IfNone self ((new ≡ None) × P) → IfNone self (new ≡ None)
 none_both None new P h = h.0

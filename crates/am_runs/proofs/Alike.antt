@@ -1,8 +1,8 @@
 -- More of the entry that the pending run has.
-use Rattle.std.proofs.Common.{◌≡◌, ℕ, suc, zero, ◌+◌, ◌-◌, ◌^◌, ◌≤◌, List, [], ◌∷◌, ◌++◌, length, take, drop, Bool, false, cond, Option, Some, None, refl, sym, ap, ◌∙◌, subst, arith, append_assoc, length-append}
+use Rattle.std.proofs.Common.{◌≡◌, ℕ, suc, zero, ◌+◌, ◌-◌, ◌^◌, ◌≤◌, List, [], ◌∷◌, ◌++◌, length, Bool, false, cond, Option, Some, None, refl, sym, ap, ◌∙◌, subst, arith, append_assoc, length-append}
 use Rattle.std.specs.Prelude.{replicate}
 use Rattle.std.specs.Option.{IfSome, IfNone}
-use Rattle.std.proofs.lemmas.List.{append-nil, length-replicate, length-take-le, take-append-drop, take_at, drop_at}
+use Rattle.std.proofs.lemmas.List.{append-nil, length-replicate}
 use Rattle.am_runs.specs.declared.pending.PendingKind.{PendingKind}
 use Rattle.am_runs.specs.declared.pending.PendingKind.TheVariants as pending
 use Rattle.am_runs.specs.Items.{ReadsItems}
@@ -63,30 +63,3 @@ pushed_more (Some list) self new count left k x kl l h m =
 pub none_goes : (value self new : Option (List (Option (List ℕ)))) (P : Type 0) → IfNone value (self ≡ None) → IfNone self ((new ≡ None) × P) → IfNone value (new ≡ None)
 none_goes None self new P h m = (subst (λ v. IfNone v ((new ≡ None) × P)) h m).0
 none_goes (Some list) self new P h m = tt
-
-pub none_on : (value self new : Option (List (Option (List ℕ)))) → IfNone value (self ≡ None) → IfNone self (new ≡ None) → IfNone value (new ≡ None)
-none_on None self new h m = subst (λ v. IfNone v (new ≡ None)) h m
-none_on (Some list) self new h m = tt
-
-parts : (from0 from new : List (Option (List ℕ))) (a k : ℕ) (x : Option (List ℕ)) → from ≡ drop a from0 → from ≡ replicate k x ++ new → from0 ≡ (take a from0 ++ replicate k x) ++ new
-parts from0 from new a k x e f = sym (take-append-drop a from0) ∙ ap (λ l. take a from0 ++ l) (sym e ∙ f) ∙ sym (append_assoc (take a from0) (replicate k x) new)
-
-part_length : (from0 : List (Option (List ℕ))) (a k : ℕ) (x : Option (List ℕ)) → a ≤ length from0 → length (take a from0 ++ replicate k x) ≡ a + k
-part_length from0 a k x l = omega (arith, length-append (take a from0) (replicate k x), length-replicate k x, length-take-le a from0 l)
-
-pub behind_more : (from0 from new : List (Option (List ℕ))) (n left k : ℕ) (x : Option (List ℕ)) → k ≤ left → left ≤ n → n ≤ length from0 → from ≡ drop (n - left) from0 → from ≡ replicate k x ++ new → new ≡ drop (n - (left - k)) from0
-behind_more from0 from new n left k x kl l e b f =
-    sym (ap (drop (n - (left - k))) (parts from0 from new (n - left) k x b f)
-    ∙ drop_at (take (n - left) from0 ++ replicate k x) new (n - (left - k)) (part_length from0 (n - left) k x (omega arith) ∙ omega arith))
-
-pub taken_more : (value self next : Option (List (Option (List ℕ)))) (from0 from new : List (Option (List ℕ))) (n left k : ℕ) (x : Option (List ℕ)) → k ≤ left → left ≤ n → n ≤ length from0 → from ≡ drop (n - left) from0 → from ≡ replicate k x ++ new
-    → IfSome value (λ list. self ≡ Some (list ++ take (n - left) from0)) → IfSome self (λ list. next ≡ Some (list ++ replicate k x)) → IfSome value (λ list. next ≡ Some (list ++ take (n - (left - k)) from0))
-taken_more None self next from0 from new n left k x kl l e b f h m = tt
-taken_more (Some list) self next from0 from new n left k x kl l e b f h m =
-    subst (λ v. IfSome v (λ l. next ≡ Some (l ++ replicate k x))) h m
-    ∙ ap Some (append_assoc list (take (n - left) from0) (replicate k x)
-    ∙ ap (λ r. list ++ r) (sym (ap (take (n - (left - k))) (parts from0 from new (n - left) k x b f)
-    ∙ take_at (take (n - left) from0 ++ replicate k x) new (n - (left - k)) (part_length from0 (n - left) k x (omega arith) ∙ omega arith))))
-
-pub still_enough : (from new : List (Option (List ℕ))) (left k : ℕ) (x : Option (List ℕ)) → left ≤ length from → from ≡ replicate k x ++ new → left - k ≤ length new
-still_enough from new left k x l f = omega (arith, ap length f, length-append (replicate k x) new, length-replicate k x)

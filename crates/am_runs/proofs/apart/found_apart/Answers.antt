@@ -1,4 +1,4 @@
-use Rattle.std.proofs.Common.{arith, List, [], ◌∷◌, ◌++◌}
+use Rattle.std.proofs.Common.{arith, [], ◌∷◌, ◌++◌}
 use Rattle.am_runs.proofs.Neighbours.{more_apart}
 use Rattle.am_runs.proofs.apart.found_apart.Goals as goal
 

@@ -1,4 +1,4 @@
-use Rattle.std.proofs.Common.{◌≡◌, ◌≤◌, ◌+◌, ◌<◌, ℕ, List}
+use Rattle.std.proofs.Common.{◌≤◌, ◌+◌, ℕ, List}
 use Rattle.am_runs.specs.Apart.{AreApart}
 use Rattle.am_runs.proofs.apart.found_apart.Given as goal
 
