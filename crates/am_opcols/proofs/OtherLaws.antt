@@ -1,12 +1,20 @@
 -- Actors that are put one after another.
 use Rattle.std.proofs.Common.{◌≡◌, ℕ, zero, suc, add-one, ◌+◌, ◌<◌, ◌≤◌, List, [], ◌∷◌, ◌++◌, length, take, drop, map, refl, sym, ap, ◌∙◌, arith, get_or, append_assoc, insert, Less, Equal, Greater}
+use Rattle.std.specs.Prelude.{Bool}
 use Rattle.std.specs.List.{flat_map}
+use Rattle.std.specs.Cmp.Lexicographic.{texts_ties}
 use Rattle.am_types.specs.Order.{bytes_cmp}
+use Rattle.am_types.specs.Same.{same_bytes}
 use Rattle.std.proofs.lemmas.List.{map-append, append-nil}
 use Rattle.am_types.specs.declared.OpId.{OpId}
 use Rattle.am_types.specs.declared.Op.{Op}
+use Rattle.am_fields.specs.Columns.{is_actor}
 use Rattle.am_fields.proofs.WriteLaws.{take_next}
 use Rattle.am_opcols.specs.Others.{put_by, put_actor, put_other, put_others, actors_of, others}
+
+-- actors with the same bytes are one
+pub same_as_actor : (a b : List ℕ) (r : Bool) → r ≡ same_bytes a b → r ≡ is_actor a b
+same_as_actor a b r e = e ∙ texts_ties a b
 
 pub put_less : (known : List (List ℕ)) (i : ℕ) (actor at : List ℕ) → i < length known → at ≡ get_or known i at → bytes_cmp actor at ≡ Less → put_actor actor (drop i known) ≡ actor ∷ drop i known
 put_less [] i actor at n e t = absurd (omega arith)

@@ -1,6 +1,7 @@
 //! The actors that operations name beside the author.
 ghost use Rattle.std.specs.Prelude.{◌≡◌, ◌≤◌, insert, length, map, IfOk, IfErr, OnOk};
 ghost use Rattle.std.specs.Option.{option_to_list};
+ghost use Rattle.am_fields.specs.Columns.{is_actor};
 ghost use Rattle.am_fields.specs.Layout.{object_actor, key_actor};
 ghost use Rattle.am_opcols.specs.Others.{put_actor as put_at, put_other as put_if, put_others, actors_of, others};
 
@@ -38,6 +39,14 @@ fn put_actor(alloc: Global, known: &mut Vec<ActorId>, actor: &ActorId) -> Result
     }
 }
 
+// Whether the actor is the author.
+#[tactic(auto, using(crate::proofs::OtherLaws::same_as_actor))]
+fn is_author(actor: &ActorId, author: &ActorId) -> bool
+    ensures { result ≡ is_actor actor.now author.now }
+{
+    same_actor(actor.as_slice(), author.as_slice())
+}
+
 // The same, unless it is the author.
 fn put_other(
     alloc: Global,
@@ -47,7 +56,7 @@ fn put_other(
 ) -> Result<(), AllocError>
     ensures { OnOk result (known.new.items ≡ put_if author.now actor.now known.old.items) }
 {
-    if same_actor(actor.as_slice(), author.as_slice()) {
+    if is_author(actor, author) {
         return Ok(());
     }
     put_actor(alloc, known, actor)
