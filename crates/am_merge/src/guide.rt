@@ -60,7 +60,7 @@ impl Guide {
         })
     }
 
-    /// Up to about where the table has lesser counters.
+    /// About how many of the table have lesser counters.
     pub fn about(&self, counter: u64) -> usize {
         let stretch = stretch_of(counter, self.least, self.width);
         match self.starts.as_slice().get(stretch as usize) {
