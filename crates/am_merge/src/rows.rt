@@ -18,11 +18,8 @@ use crate::stops::Walk;
 use crate::walk::walk_rows;
 use am_doccols::RowCursor;
 use am_places::Numbered;
-use am_types::{ActorId, Bytes, Change};
+use am_types::{ActorId, Bytes, Change, MOST_OPERATIONS};
 use std::alloc::{AllocError, Global};
-
-// The most rows of a document.
-const MOST: u64 = 4194304;
 
 // What the operations name, in order.
 fn tables_of<'a>(alloc: Global, operations: &[Numbered<'a>]) -> Result<Tables<'a>, AllocError>
@@ -55,7 +52,7 @@ fn start<'a>(alloc: Global, operations: &[Numbered<'a>]) -> Result<Walk<'a>, All
         stops: Vec::new(alloc),
         skipped: 0,
         waiting,
-        left: MOST,
+        left: MOST_OPERATIONS,
     })
 }
 
