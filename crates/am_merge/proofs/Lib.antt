@@ -46,3 +46,4 @@ pub mod Unnamed
 pub mod Carried
 pub mod RowsText
 pub mod Fronts
+pub mod Turning

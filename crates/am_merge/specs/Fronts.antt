@@ -3,7 +3,10 @@
 --                        fewer with zeros behind these
 --     front_of xs        the first 16 bytes
 --     front_at x         the front of the name at which an operation stands, if it stands at one
-use Rattle.std.specs.Prelude.{ℕ, zero, suc, ◌+◌, ◌*◌, List, [], ◌∷◌}
+--     is_root o          the object o is the root
+use Rattle.std.specs.Prelude.{ℕ, zero, suc, ◌+◌, ◌*◌, Bool, true, false, List, [], ◌∷◌}
+use Rattle.am_types.specs.declared.ObjId.{ObjId}
+use Rattle.am_types.specs.declared.ObjId.TheVariants.{Root, Made}
 use Rattle.am_types.specs.Operations.{Operation}
 use Rattle.am_merge.specs.Walk.{name_in}
 
@@ -17,3 +20,7 @@ front_of xs = spelled 0 16 xs
 
 abbrev pub front_at : Operation → ℕ
 front_at x = front_of (name_in x.op.key)
+
+abbrev pub is_root : ObjId → Bool
+is_root Root = true
+is_root (Made i) = false

@@ -125,3 +125,13 @@ pub fn spot<'a>(x: &Numbered<'a>) -> SpotRef<'a>
         id: x.id(),
     }
 }
+
+/// The turns of two operations compared, of which most are no insertions.
+pub fn compare_turns_of(a: &Numbered<'_>, b: &Numbered<'_>) -> Ordering
+    ensures { result ≡ id_turn_cmp (spot_of (operation_of a.now)) (spot_of (operation_of b.now)) }
+{
+    if a.op.insert || b.op.insert {
+        return compare_turns(&spot(a), &spot(b));
+    }
+    compare_ids(a.id(), b.id())
+}

@@ -1,22 +1,27 @@
 //! The operations that wait when the walk begins, in its order.
 ghost use Rattle.std.specs.Prelude.{◌≡◌, OnOk};
-ghost use Rattle.std.specs.Ordering.{ordering_then};
-ghost use Rattle.am_types.specs.Order.{bytes_cmp, sorted_by};
+ghost use Rattle.std.specs.Ordering.{nat_cmp, ordering_then};
+ghost use Rattle.am_types.specs.Order.{bytes_cmp, object_cmp, sorted_by};
 ghost use Rattle.am_places.specs.Numbered.{operation_of};
+ghost use Rattle.am_merge.specs.Fronts.{is_root};
 ghost use Rattle.am_merge.specs.Walk.{by_spot, id_turn_cmp, lane_cmp, lane_of, name_in, spot_of};
 
 use crate::front::{compare_behind, front};
-use crate::spot::{compare_turns, spot};
+use crate::spot::compare_turns_of;
 use am_places::Numbered;
-use am_types::{Key, compare_objects, slice_known};
+use am_types::{Key, ObjId, compare_objects, slice_known};
 use std::alloc::AllocError;
 use std::cmp::Ordering;
 use std::marker::Model;
 
-/// An operation beside the front of the name at which it stands, if it stands at one. Contracts see the operation.
+/// An operation beside what mostly decides where it starts, so that nothing else is read of it. Contracts see the operation.
 #[derive(Drop)]
 pub struct Start<'a> {
     operation: Numbered<'a>,
+    in_root: bool,
+    /// Names come first, and insertions last.
+    lane: u8,
+    /// The front of the name at which it stands, if it stands at one.
     front: u128,
 }
 
@@ -25,14 +30,17 @@ impl<'a> Model for Start<'a> {
     ghost use Rattle.am_types.specs.Bytes.{IsBytes};
     ghost use Rattle.am_types.specs.Operations.{Operation};
     ghost use Rattle.am_places.specs.Numbered.{operation_of};
-    ghost use Rattle.am_merge.specs.Fronts.{front_at};
-    ghost use Rattle.am_merge.specs.Walk.{name_in};
+    ghost use Rattle.am_merge.specs.Fronts.{front_at, is_root};
+    ghost use Rattle.am_merge.specs.Walk.{lane_of, name_in};
 
     ghost Value = { Operation };
 
     ghost view = { λ s. operation_of s.operation };
 
-    ghost invariant = { λ s. (s.front ≡ front_at (operation_of s.operation)) × IsBytes (name_in (operation_of s.operation).op.key) };
+    ghost invariant = { λ s. (s.front ≡ front_at (operation_of s.operation))
+        × IsBytes (name_in (operation_of s.operation).op.key)
+        × (s.lane ≡ lane_of (operation_of s.operation).op.insert (operation_of s.operation).op.key)
+        × (s.in_root ≡ is_root (operation_of s.operation).op.obj) };
 }
 
 // The name at which it stands.
@@ -60,6 +68,16 @@ fn lane(x: &Numbered<'_>) -> u8
     }
 }
 
+// Whether its object is the root.
+fn is_in_root(x: &Numbered<'_>) -> bool
+    ensures { result ≡ is_root (operation_of x.now).op.obj }
+{
+    match &x.op.obj {
+        ObjId::Root => true,
+        ObjId::Made(_) => false,
+    }
+}
+
 // By name.
 fn compare_names(a: &Start<'_>, b: &Start<'_>) -> Ordering
     ensures { result ≡ bytes_cmp (name_in a.now.op.key) (name_in b.now.op.key) }
@@ -77,27 +95,44 @@ fn compare_in_lane(a: &Start<'_>, b: &Start<'_>) -> Ordering
 {
     match compare_names(a, b) {
         Ordering::Less => Ordering::Less,
-        Ordering::Equal => compare_turns(&spot(&a.operation), &spot(&b.operation)),
+        Ordering::Equal => compare_turns_of(&a.operation, &b.operation),
         Ordering::Greater => Ordering::Greater,
     }
+}
+
+// By lane.
+fn compare_lanes(a: &Start<'_>, b: &Start<'_>) -> Ordering
+    ensures { result ≡ nat_cmp (lane_of a.now.op.insert a.now.op.key) (lane_of b.now.op.insert b.now.op.key) }
+{
+    a.lane.cmp(&b.lane)
 }
 
 // Within one object.
 fn compare_in_object(a: &Start<'_>, b: &Start<'_>) -> Ordering
     ensures { result ≡ lane_cmp (spot_of a.now) (spot_of b.now) }
 {
-    match lane(&a.operation).cmp(&lane(&b.operation)) {
+    match compare_lanes(a, b) {
         Ordering::Less => Ordering::Less,
         Ordering::Equal => compare_in_lane(a, b),
         Ordering::Greater => Ordering::Greater,
     }
 }
 
+// By object.
+fn compare_objects_of(a: &Start<'_>, b: &Start<'_>) -> Ordering
+    ensures { result ≡ object_cmp a.now.op.obj b.now.op.obj }
+{
+    if a.in_root && b.in_root {
+        return Ordering::Equal;
+    }
+    compare_objects(a.operation.op.obj.lend(), b.operation.op.obj.lend())
+}
+
 // The order of the walk.
 fn compare_starts(a: &Start<'_>, b: &Start<'_>) -> Ordering
     ensures { result ≡ by_spot a.now b.now }
 {
-    match compare_objects(a.operation.op.obj.lend(), b.operation.op.obj.lend()) {
+    match compare_objects_of(a, b) {
         Ordering::Less => Ordering::Less,
         Ordering::Equal => compare_in_object(a, b),
         Ordering::Greater => Ordering::Greater,
@@ -105,7 +140,7 @@ fn compare_starts(a: &Start<'_>, b: &Start<'_>) -> Ordering
 }
 
 impl<'a> Start<'a> {
-    /// The operation beside its front.
+    /// The operation beside what decides.
     pub fn of(x: Numbered<'a>) -> Start<'a>
         ensures { result ≡ operation_of x.entry }
     {
@@ -113,6 +148,8 @@ impl<'a> Start<'a> {
         slice_known(name);
         Start {
             operation: x,
+            in_root: is_in_root(&x),
+            lane: lane(&x),
             front: front(name),
         }
     }
