@@ -31,6 +31,7 @@ use Rattle.am_types.proofs.Permutations.{IsPermutation-filter}
 use Rattle.am_laws.proofs.SameMembers.{NoRepeat, same_members}
 use Rattle.am_histories.specs.Rebuilt.{ids, rebuilt_after, rebuilt}
 use Rattle.am_histories.specs.Gapless.{NoGaps}
+use Rattle.am_histories.specs.Laws.{Passes}
 use Rattle.am_histories.specs.OnePass.{one_pass}
 use Rattle.am_histories.proofs.OnePass.{one_pass_tells}
 use Rattle.am_histories.proofs.Sorted.{not_less_itself}
@@ -254,3 +255,16 @@ module _ (hash_of : Change → Hash) (t : Table) (R : List Member) (b : BuiltGap
         succs = h.succs;
         in_order = h.in_order;
       }
+
+-- ---- rows that no count fits have no history
+
+pub passing_tells : (hash_of : Change → Hash) (t : Table) → Passes t (rebuilt hash_of t) → TellsRest t.rows (length (all_operations (changes (rebuilt hash_of t))))
+passing_tells hash_of t p =
+    let h = (rows_are_rebuilt hash_of t p.in_turn).1 p.rows in
+    record {
+      count = h.count;
+      apart = h.apart;
+      kept = h.kept;
+      succs = h.succs;
+      in_order = h.in_order;
+    }

@@ -9,6 +9,10 @@ use Rattle.am_types.specs.declared.Hash.{Hash}
 use Rattle.am_types.specs.declared.Meta.{Meta}
 use Rattle.am_types.specs.declared.Row.{Row}
 use Rattle.am_types.specs.declared.Table.{Table}
+use Rattle.am_types.specs.declared.ObjId.{ObjId}
+use Rattle.am_types.specs.declared.ObjId.TheVariants.{Root, Made}
+use Rattle.am_types.specs.declared.Key.{Key}
+use Rattle.am_types.specs.declared.Key.TheVariants.{Name, Head, Elem}
 use Rattle.am_types.specs.Order.{bytes_cmp, among}
 use Rattle.am_types.specs.Members.{Member, changes, heads}
 use Rattle.am_types.specs.ValidSets.{Valid, JoinInTurn}
@@ -16,13 +20,12 @@ use Rattle.am_types.specs.Deliver.{MayCome}
 use Rattle.am_types.specs.Documents.{History, object_actors, key_actors}
 use Rattle.am_change.specs.Hashes.{own_hash, with_hash, with_hashes}
 use Rattle.am_delivery.specs.Waiting.{members_of}
-use Rattle.am_fields.specs.Layout.{flat}
 use Rattle.am_fields.specs.Limits.{IsWithin, IsObjectWithin, IsKeyWithin, IsShortActor, IsBelow}
 use Rattle.am_fields.proofs.Lists.{all-append}
 use Rattle.am_laws.specs.Tables as tables
 use Rattle.am_doc.specs.Sound.{IsSound}
 use Rattle.am_histories.specs.Laws.{AreHashedBy, table_actors, row_actors}
-use Rattle.am_rebuild.specs.Copied.{IsCopied}
+use Rattle.am_rebuild.specs.Copied.{IsObjectShort, IsKeyShort, IsCopied}
 use Rattle.am_rebuild.specs.Documents.{bare, IsHistoryOf, changes_of, AreOwn}
 use Rattle.am_rebuild.specs.Judged.{IsLeastApart, IsTheHistory}
 
@@ -86,15 +89,21 @@ split : {A : Type 0} (P : A → Type 0) (xs ys : List A) → AllByRecursion P (x
 split P [] ys a = (tt, a)
 split P (x ∷ xs) ys a = let again = split P xs ys a.1 in ((a.0, again.0), again.1)
 
-copied : (rows : List Row) → AllByRecursion IsObjectWithin (map (λ (r : Row). r.obj) rows) → AllByRecursion IsKeyWithin (map (λ (r : Row). r.key) rows) → AllByRecursion IsWithin (map (λ (r : Row). r.id) rows)
-    → AllByRecursion IsWithin (flat (map (λ (r : Row). r.succs) rows)) → AllByRecursion IsCopied rows
-copied [] o k i s = tt
-copied (r ∷ rows) o k i s =
-    let parts = split IsWithin r.succs (flat (map (λ (x : Row). x.succs) rows)) s in
-    (record { object = o.0; key = k.0; id = i.0; succs = parts.0 }, copied rows o.1 k.1 i.1 parts.1)
+short_object : (o : ObjId) → IsObjectWithin o → IsObjectShort o
+short_object Root w = tt
+short_object (Made id) w = (w.some, w.few)
+
+short_key : (k : Key) → IsKeyWithin k → IsKeyShort k
+short_key (Name n) w = tt
+short_key Head w = tt
+short_key (Elem id) w = (w.some, w.few)
+
+copied : (rows : List Row) → AllByRecursion IsObjectWithin (map (λ (r : Row). r.obj) rows) → AllByRecursion IsKeyWithin (map (λ (r : Row). r.key) rows) → AllByRecursion IsWithin (map (λ (r : Row). r.id) rows) → AllByRecursion IsCopied rows
+copied [] o k i = tt
+copied (r ∷ rows) o k i = (record { object = short_object r.obj o.0; key = short_key r.key k.0; id = (i.0.some, i.0.few) }, copied rows o.1 k.1 i.1)
 
 pub rows_copied : (t : Table) → IsSound t → AllByRecursion IsCopied t.rows
-rows_copied t s = copied t.rows (s.rows).objects (s.rows).keys (s.rows).ids (s.rows).succs
+rows_copied t s = copied t.rows (s.rows).objects (s.rows).keys (s.rows).ids
 
 abbrev Among : List (List ℕ) → List ℕ → Type 0
 Among actors a = IsTrue (among bytes_cmp actors a)

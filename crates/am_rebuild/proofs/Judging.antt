@@ -10,7 +10,6 @@ use Rattle.std.proofs.lemmas.Cmp.{eq_by_cmp_equiv}
 use Rattle.std.proofs.lemmas.Map.Keys.{IsDistinct-head, IsDistinct-tail, IsDistinct-IsPermutation}
 use Rattle.am_types.specs.declared.Hash.{Hash}
 use Rattle.am_types.specs.declared.Change.{Change}
-use Rattle.am_types.specs.declared.Row.{Row}
 use Rattle.am_types.specs.declared.Table.{Table}
 use Rattle.am_types.specs.Order.{bytes_cmp, hash_cmp, among, Ascends}
 use Rattle.am_types.specs.Operations.{all_operations}
@@ -34,14 +33,15 @@ use Rattle.am_histories.proofs.Concluded.{no_history, other_rows, history}
 use Rattle.am_rebuild.specs.Joined.{BuiltGapless, BuildsGapless}
 use Rattle.am_rebuild.specs.Told.{TellsRest}
 use Rattle.am_rebuild.specs.Judged.{first_apart, IsLeastApart, IsTheHistory}
-use Rattle.am_rebuild.proofs.Agreeing.{rows_if, tells_if}
+use Rattle.am_rebuild.proofs.Agreeing.{rows_if, tells_if, passing_tells}
 use Rattle.am_rebuild.proofs.Apart.{sorted_hashes, least_apart}
 
 abbrev pub HasNone : (Change → Hash) → Table → Type 0
 HasNone hash_of t = (C : List Member) → AreHashedBy hash_of C → History t C → ⊥
 
-pub retold : (rs qs : List Row) (n k : ℕ) → rs ≡ qs → n ≡ k → TellsRest rs n → TellsRest qs k
-retold rs qs n k e f h = subst (TellsRest qs) f (subst (λ l. TellsRest l n) e h)
+-- rows that are told for no count have no history
+pub untold : (hash_of : Change → Hash) (t : Table) → ((n : ℕ) → TellsRest t.rows n → ⊥) → HasNone hash_of t
+untold hash_of t f = no_history hash_of t (λ p. f (length (all_operations (changes (rebuilt hash_of t)))) (passing_tells hash_of t p))
 
 module _ (hash_of : Change → Hash) (t : Table) (R : List Member) where
   pub unbuilt : (b : Bool) → BuildsGapless hash_of t R b → b ≡ false → HasNone hash_of t

@@ -10,6 +10,7 @@ pub mod Whole
 pub mod Numbered
 pub mod Placed
 pub mod Known
+pub mod Ascending
 pub mod Runs
 pub mod Loop
 pub mod Paths

@@ -1,11 +1,24 @@
--- Rows that can be copied.
---     IsCopied r     the actors of the ids in the row r have 1 to 1,024 bytes, and their counters are within the limits
-use Rattle.std.specs.List.{AllByRecursion}
+-- Rows that can be lent, and copied.
+--     IsObjectShort, IsKeyShort     the actor of the id that an object or a key has, if it has one, has 1 to 1,024 bytes
+--     IsCopied r                    so have those of the object, the place and the id of the row r
+use Rattle.std.specs.Prelude.{⊤}
+use Rattle.am_types.specs.declared.ObjId.{ObjId}
+use Rattle.am_types.specs.declared.ObjId.TheVariants.{Root, Made}
+use Rattle.am_types.specs.declared.Key.{Key}
+use Rattle.am_types.specs.declared.Key.TheVariants.{Name, Head, Elem}
 use Rattle.am_types.specs.declared.Row.{Row}
-use Rattle.am_fields.specs.Limits.{IsWithin, IsObjectWithin, IsKeyWithin}
+use Rattle.am_fields.specs.Limits.{IsShortActor}
+
+abbrev pub IsObjectShort : ObjId → Type 0
+IsObjectShort Root = ⊤
+IsObjectShort (Made id) = IsShortActor id.actor
+
+abbrev pub IsKeyShort : Key → Type 0
+IsKeyShort (Name n) = ⊤
+IsKeyShort Head = ⊤
+IsKeyShort (Elem id) = IsShortActor id.actor
 
 pub record IsCopied (r : Row) : Type 0 where
-  pub object : IsObjectWithin r.obj
-  pub key : IsKeyWithin r.key
-  pub id : IsWithin r.id
-  pub succs : AllByRecursion IsWithin r.succs
+  pub object : IsObjectShort r.obj
+  pub key : IsKeyShort r.key
+  pub id : IsShortActor r.id.actor

@@ -6,4 +6,6 @@ pub mod Judged
 pub mod Gathered
 pub mod Told
 pub mod Copied
+pub mod Lent
+pub mod Lending
 pub mod Documents

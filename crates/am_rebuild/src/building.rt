@@ -10,7 +10,7 @@ ghost use Rattle.std.specs.Prelude.{◌≡◌, [], ◌^◌, ◌<◌, List, All, 
 use crate::change::change_at;
 use crate::joining::Joining;
 use crate::mention::Named;
-use am_types::{Change, Meta};
+use am_types::{Change, Meta, SharedActors};
 use std::alloc::{AllocError, Global};
 
 /// Takes in what was built of a meta, where it is a change that joins.
@@ -45,9 +45,10 @@ pub(crate) fn build_from<J: Joining>(
     requires maxes { All (λ m. m.max < 2 ^ 53) metas.now }
     ensures { IfOk result (λ built. (t : Table) → AreSortedMentions t.rows all.entry.items → t.metas ≡ metas.now → BuildsGapless J.hash_of t (J.members joining.new) built) }
 {
+    let mut known = SharedActors::new(alloc);
     let mut left = all;
     for (i, meta) in metas.iter().enumerate() {
-        let change = change_at(alloc, joining, names, &left, meta)?;
+        let change = change_at(alloc, &mut known, joining, names, &left, meta)?;
         if i + 1 == metas.len() {
             left = Vec::new(alloc);
         }

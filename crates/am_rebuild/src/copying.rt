@@ -1,16 +1,15 @@
-//! Copying actors, rows and change rows that are lent from a document.
-ghost use Rattle.std.specs.Prelude.{◌≡◌, ◌≤◌, length, option_map, IfOk};
+//! Copying what is lent from a document: actors, change rows, and the fields of rows.
+ghost use Rattle.std.specs.Prelude.{◌≡◌, option_map, IfOk};
 ghost use Rattle.std.specs.List.{AllByRecursion};
 ghost use Rattle.am_types.specs.Views.{id_of, object_of, key_of, value_of};
-ghost use Rattle.am_fields.specs.Limits.{IsWithin, IsObjectWithin, IsKeyWithin, IsShortActor};
-ghost use Rattle.am_doccols.specs.Rows.{row_of};
+ghost use Rattle.am_fields.specs.Limits.{IsShortActor};
 ghost use Rattle.am_doccols.specs.Metas.{meta_of};
-ghost use Rattle.am_rebuild.specs.Copied.{IsCopied};
+ghost use Rattle.am_rebuild.specs.Copied.{IsObjectShort, IsKeyShort};
 
 use am_colmeta::ActorList;
-use am_doccols::{IndexCursor, MetaCursor, MetaRef, RowCursor, RowRef, SuccCursor};
+use am_doccols::{IndexCursor, MetaCursor, MetaRef};
 use am_types::{
-    ActorFault, ActorId, Bytes, IdRef, Key, KeyRef, List, Meta, ObjId, ObjRef, OpId, RawValue, Row,
+    ActorFault, ActorId, Bytes, IdRef, Key, KeyRef, List, Meta, ObjId, ObjRef, OpId, RawValue,
     SharedActors, Text, ValueRef,
 };
 use std::alloc::{AllocError, Global};
@@ -57,8 +56,13 @@ pub(crate) fn actors_in(alloc: Global, actors: ActorList<'_>) -> Result<List<Act
     Ok(copy)
 }
 
-fn id_in(alloc: Global, known: &mut SharedActors, id: IdRef<'_>) -> Result<OpId, AllocError>
-    requires { IsWithin (id_of id) }
+/// The id, owned.
+pub(crate) fn id_in(
+    alloc: Global,
+    known: &mut SharedActors,
+    id: IdRef<'_>,
+) -> Result<OpId, AllocError>
+    requires { IsShortActor (id_of id).actor }
     ensures { IfOk result (λ copy. copy ≡ id_of id.entry) }
 {
     Ok(OpId {
@@ -67,12 +71,13 @@ fn id_in(alloc: Global, known: &mut SharedActors, id: IdRef<'_>) -> Result<OpId,
     })
 }
 
-fn object_in(
+/// The object, owned.
+pub(crate) fn object_in(
     alloc: Global,
     known: &mut SharedActors,
     object: ObjRef<'_>,
 ) -> Result<ObjId, AllocError>
-    requires { IsObjectWithin (object_of object) }
+    requires { IsObjectShort (object_of object) }
     ensures { IfOk result (λ copy. copy ≡ object_of object.entry) }
 {
     match object {
@@ -81,8 +86,13 @@ fn object_in(
     }
 }
 
-fn key_in(alloc: Global, known: &mut SharedActors, key: KeyRef<'_>) -> Result<Key, AllocError>
-    requires { IsKeyWithin (key_of key) }
+/// The place within the object, owned.
+pub(crate) fn key_in(
+    alloc: Global,
+    known: &mut SharedActors,
+    key: KeyRef<'_>,
+) -> Result<Key, AllocError>
+    requires { IsKeyShort (key_of key) }
     ensures { IfOk result (λ copy. copy ≡ key_of key.entry) }
 {
     match key {
@@ -92,7 +102,8 @@ fn key_in(alloc: Global, known: &mut SharedActors, key: KeyRef<'_>) -> Result<Ke
     }
 }
 
-fn value_in(alloc: Global, value: ValueRef<'_>) -> Result<RawValue, AllocError>
+/// The value, owned.
+pub(crate) fn value_in(alloc: Global, value: ValueRef<'_>) -> Result<RawValue, AllocError>
     ensures { IfOk result (λ copy. copy ≡ value_of value.entry) }
 {
     Ok(RawValue {
@@ -101,34 +112,14 @@ fn value_in(alloc: Global, value: ValueRef<'_>) -> Result<RawValue, AllocError>
     })
 }
 
-fn mark_in(alloc: Global, mark: Option<&str>) -> Result<Option<Text>, AllocError>
+/// The name of a mark, owned.
+pub(crate) fn mark_in(alloc: Global, mark: Option<&str>) -> Result<Option<Text>, AllocError>
     ensures { IfOk result (λ copy. copy ≡ option_map (λ s. s.now) mark.entry) }
 {
     match mark {
         None => Ok(None),
         Some(name) => Ok(Some(text_in(alloc, name)?)),
     }
-}
-
-fn succs_in(
-    alloc: Global,
-    known: &mut SharedActors,
-    succs: SuccCursor<'_>,
-) -> Result<List<OpId>, AllocError>
-    requires { AllByRecursion IsWithin succs }
-    ensures { IfOk result (λ copy. copy ≡ succs.entry) }
-{
-    let mut rest = succs;
-    let Some(first) = rest.next() else {
-        return Ok(List::new(alloc));
-    };
-    // Most rows that have successors have one.
-    let mut copy = Vec::with_capacity(alloc, 1)?;
-    copy.push(id_in(alloc, known, first)?)?;
-    while let Some(id) = rest.next() {
-        copy.push(id_in(alloc, known, id)?)?;
-    }
-    Ok(List::from(copy))
 }
 
 fn deps_in(alloc: Global, deps: IndexCursor<'_>) -> Result<List<u64>, AllocError>
@@ -140,23 +131,6 @@ fn deps_in(alloc: Global, deps: IndexCursor<'_>) -> Result<List<u64>, AllocError
         copy.push(place)?;
     }
     Ok(copy)
-}
-
-fn row_in(alloc: Global, known: &mut SharedActors, row: RowRef<'_>) -> Result<Row, AllocError>
-    requires { IsCopied (row_of row) }
-    ensures { IfOk result (λ copy. copy ≡ row_of row.entry) }
-{
-    Ok(Row {
-        obj: object_in(alloc, known, row.obj)?,
-        key: key_in(alloc, known, row.key)?,
-        id: id_in(alloc, known, row.id)?,
-        insert: row.insert,
-        action: row.action,
-        value: value_in(alloc, row.value)?,
-        succs: succs_in(alloc, known, row.succs)?,
-        expand: row.expand,
-        mark: mark_in(alloc, row.mark)?,
-    })
 }
 
 fn meta_in(alloc: Global, known: &mut SharedActors, meta: MetaRef<'_>) -> Result<Meta, AllocError>
@@ -172,20 +146,6 @@ fn meta_in(alloc: Global, known: &mut SharedActors, meta: MetaRef<'_>) -> Result
         deps: deps_in(alloc, meta.deps)?,
         extra: bytes_in(alloc, meta.extra)?,
     })
-}
-
-/// The rows, owned.
-pub(crate) fn rows_in(alloc: Global, rows: RowCursor<'_>) -> Result<List<Row>, AllocError>
-    requires { AllByRecursion IsCopied rows }
-    ensures { IfOk result (λ copy. copy ≡ rows.entry) }
-{
-    let mut known = SharedActors::new(alloc);
-    let mut copy = Vec::with_capacity(alloc, rows.left() as usize)?;
-    let mut rest = rows;
-    while let Some(row) = rest.next() {
-        copy.push(row_in(alloc, &mut known, row)?)?;
-    }
-    Ok(List::from(copy))
 }
 
 /// The change rows, owned.

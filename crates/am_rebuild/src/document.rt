@@ -1,24 +1,23 @@
 //! Rebuilding the changes of a document.
-ghost use Rattle.std.specs.Prelude.{◌≡◌, ◌<◌, ◌^◌, All, IfOk, IsTrue, vec_items};
+ghost use Rattle.std.specs.Prelude.{◌≡◌, All, IfOk, vec_items};
 ghost use Rattle.am_types.specs.declared.Table.{Table as ATable};
-ghost use Rattle.am_types.specs.Order.{bytes_cmp, hash_cmp, among, Ascends};
 ghost use Rattle.am_types.specs.Deliver.{MayCome};
 ghost use Rattle.am_types.specs.ValidSets.{Valid};
 ghost use Rattle.am_fits.specs.Indexes.{AreOf};
 ghost use Rattle.am_change.specs.Hashes.{own_hash};
 ghost use Rattle.am_delivery.specs.Waiting.{members_of};
-ghost use Rattle.am_histories.specs.Laws.{table_actors};
 ghost use Rattle.am_doc.specs.Sound.{IsSound};
 ghost use Rattle.am_rebuild.specs.Judged.{IsJudged};
 ghost use Rattle.am_rebuild.specs.Documents.{Rebuilds, bare, changes_rebuilt, without_hashes, AreOwn};
 
-use crate::copying::{actors_in, metas_in, rows_in};
+use crate::copying::{actors_in, metas_in};
 use crate::fault::RebuildFault;
 use crate::gathered::Gathered;
-use crate::judgement::{Judgement, judge};
+use crate::judgement::{Judgement, LentTable, judge_lent};
+use crate::lent::rows_in;
 use crate::rebuilt::Rebuilt;
 use am_doc::{DocRef, spelled_tables_are_sound};
-use am_types::{Change, Hash, List, Table};
+use am_types::{Change, Hash, List};
 use std::alloc::{AllocError, Global};
 
 /// The stated heads, owned.
@@ -35,29 +34,23 @@ fn heads_in(alloc: Global, doc: &DocRef<'_>) -> Result<List<Hash>, AllocError>
     Ok(heads)
 }
 
-/// The table of the document, owned, without the places of the heads.
-fn table_in(alloc: Global, doc: &DocRef<'_>) -> Result<Table, AllocError>
+/// The changes that joined, and what is found of the document, whose rows stay lent.
+fn judged_in(alloc: Global, doc: &DocRef<'_>) -> Result<(Gathered, Judgement), AllocError>
     requires { IsSound doc.now }
-    ensures { IfOk result (λ table. table ≡ bare doc.now) }
+    ensures { IfOk result (λ r. IsJudged own_hash (bare doc.now) r.0 r.1) }
 {
-    Ok(Table {
-        actors: actors_in(alloc, doc.actors())?,
-        heads: heads_in(alloc, doc)?,
-        metas: metas_in(alloc, doc.metas())?,
-        rows: rows_in(alloc, doc.rows())?,
-        suffix: None,
-    })
-}
-
-/// The changes that joined, and what is found of the table.
-fn judged_in(alloc: Global, table: &Table) -> Result<(Gathered, Judgement), AllocError>
-    requires maxes { All (λ m. m.max < 2 ^ 53) table.now.metas }
-    requires heads { Ascends hash_cmp table.now.heads }
-    requires actors { All (λ a. IsTrue (among bytes_cmp table.now.actors a)) (table_actors table.now) }
-    ensures { IfOk result (λ r. IsJudged own_hash table.now r.0 r.1) }
-{
+    let actors = actors_in(alloc, doc.actors())?;
+    let heads = heads_in(alloc, doc)?;
+    let metas = metas_in(alloc, doc.metas())?;
+    let rows = rows_in(alloc, doc.rows())?;
     let mut gathered = Gathered::new(alloc);
-    let judgement = judge(alloc, &mut gathered, table)?;
+    let table = LentTable {
+        actors: actors.as_slice(),
+        heads: heads.as_slice(),
+        metas: metas.as_slice(),
+        rows: &rows,
+    };
+    let judgement = judge_lent(alloc, &mut gathered, table)?;
     Ok((gathered, judgement))
 }
 
@@ -87,8 +80,7 @@ pub fn rebuild_whole(alloc: Global, doc: DocRef<'_>) -> Result<Rebuilt, RebuildF
 {
     doc.is_spelled();
     spelled_tables_are_sound();
-    let table = table_in(alloc, &doc)?;
-    let (gathered, judgement) = judged_in(alloc, &table)?;
+    let (gathered, judgement) = judged_in(alloc, &doc)?;
     answer(gathered, judgement)
 }
 

@@ -1,15 +1,17 @@
 //! What is found of a table: its one history with its heads, its history with other heads, or none.
-ghost use Rattle.std.specs.Prelude.{◌≡◌, ◌<◌, ◌^◌, ◌↔◌, [], All, IsTrue, IfOk};
+ghost use Rattle.std.specs.Prelude.{◌≡◌, ◌<◌, ◌^◌, ◌↔◌, ℕ, List, [], All, IsTrue, IfOk, Option, None};
 ghost use Rattle.am_types.specs.Order.{bytes_cmp, hash_cmp, among, Ascends};
 ghost use Rattle.am_histories.specs.Laws.{table_actors};
 ghost use Rattle.am_rebuild.specs.Judged.{first_apart, IsJudged};
+ghost use Rattle.am_rebuild.specs.Lending.{table_of};
 
 use crate::building::build_from;
 use crate::joining::Joining;
+use crate::lent::{LentRow, lend_rows};
 use crate::mention::sorted_mentions;
 use crate::names::names_in;
-use crate::telling::{ids_told, is_told};
-use am_types::{ActorId, Hash, Table};
+use crate::telling::ids_told;
+use am_types::{ActorId, Hash, Meta, Table};
 use std::alloc::{AllocError, Global};
 use std::cmp::Ordering;
 
@@ -63,6 +65,49 @@ fn first_apart(a: &[Hash], b: &[Hash]) -> Option<Hash>
     }
 }
 
+/// A table whose rows are lent.
+#[derive(Clone, Copy)]
+pub struct LentTable<'a> {
+    pub actors: &'a [ActorId],
+    pub heads: &'a [Hash],
+    pub metas: &'a [Meta],
+    pub rows: &'a [LentRow<'a>],
+}
+
+/// Rebuilds the changes of a table whose rows are lent, and judges it, wherever it has its heads.
+pub(crate) fn judge_lent<J: Joining>(
+    alloc: Global,
+    joining: &mut J,
+    table: LentTable<'_>,
+) -> Result<Judgement, AllocError>
+    requires empty { J.members joining.old ≡ [] }
+    requires maxes { All (λ m. m.max < 2 ^ 53) table.metas.now }
+    requires heads { Ascends hash_cmp table.heads.now }
+    requires actors { All (λ a. IsTrue (among bytes_cmp table.actors.now a)) (table_actors (table_of table None)) }
+    ensures { IfOk result (λ j. (suffix : Option (List ℕ)) → IsJudged J.hash_of (table_of table.entry suffix) (J.members joining.new) j) }
+{
+    if !actors_ascend(table.actors) {
+        return Ok(Judgement::NoHistory);
+    }
+    let names = names_in(alloc, table.actors)?;
+    let all = sorted_mentions(alloc, &names, table.rows)?;
+    let told = ids_told(alloc, table.rows, &all)?;
+    let Some(ids) = told else {
+        return Ok(Judgement::NoHistory);
+    };
+    if !build_from(alloc, joining, &names, all, table.metas)? {
+        return Ok(Judgement::NoHistory);
+    }
+    if ids != joining.operation_count() {
+        return Ok(Judgement::NoHistory);
+    }
+    let heads = joining.heads(alloc)?;
+    match first_apart(heads.as_slice(), table.heads) {
+        None => Ok(Judgement::Whole),
+        Some(hash) => Ok(Judgement::OtherHeads(hash)),
+    }
+}
+
 /// Rebuilds the changes of a table, and judges it.
 pub fn judge<J: Joining>(
     alloc: Global,
@@ -75,24 +120,13 @@ pub fn judge<J: Joining>(
     requires actors { All (λ a. IsTrue (among bytes_cmp table.now.actors a)) (table_actors table.now) }
     ensures { IfOk result (IsJudged J.hash_of table.now (J.members joining.new)) }
 {
-    let actors = table.actors.as_slice();
-    if !actors_ascend(actors) {
-        return Ok(Judgement::NoHistory);
-    }
-    let rows = table.rows.as_slice();
-    let metas = table.metas.as_slice();
-    let names = names_in(alloc, actors)?;
-    let all = sorted_mentions(alloc, &names, rows)?;
-    let told = ids_told(alloc, rows, &all)?;
-    if !build_from(alloc, joining, &names, all, metas)? {
-        return Ok(Judgement::NoHistory);
-    }
-    if !is_told(told, joining.operation_count()) {
-        return Ok(Judgement::NoHistory);
-    }
-    let heads = joining.heads(alloc)?;
-    match first_apart(heads.as_slice(), table.heads.as_slice()) {
-        None => Ok(Judgement::Whole),
-        Some(hash) => Ok(Judgement::OtherHeads(hash)),
-    }
+    let rows = lend_rows(alloc, table.rows.as_slice())?;
+    let lent = LentTable {
+        actors: table.actors.as_slice(),
+        heads: table.heads.as_slice(),
+        metas: table.metas.as_slice(),
+        rows: &rows,
+    };
+    let judgement = judge_lent(alloc, joining, lent)?;
+    Ok(judgement)
 }

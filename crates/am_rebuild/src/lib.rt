@@ -12,6 +12,7 @@ mod group;
 mod joining;
 mod judgement;
 mod lasts;
+mod lent;
 mod mention;
 mod names;
 mod order;

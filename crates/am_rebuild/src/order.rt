@@ -6,19 +6,20 @@ ghost use Rattle.am_histories.specs.RowOrder.{slot_may_come, may_open, by_object
 ghost use Rattle.am_histories.specs.OnePass.{moved, path_into, one_pass};
 ghost use Rattle.am_rebuild.specs.Stops.{path_of};
 
+use crate::lent::{LentRow, lend_rows};
 use crate::path::{StopRef, go_back, is_going, put, restart};
-use am_types::{Key, KeyRef, Row, compare_ids, compare_objects, same_key};
+use am_types::{KeyRef, Row, compare_ids, compare_objects, same_key};
 use std::alloc::{AllocError, Global};
 use std::cmp::Ordering;
 
 /// What the row gives a value to.
-fn slot(row: &Row) -> KeyRef<'_>
+fn slot<'a>(row: &LentRow<'a>) -> KeyRef<'a>
     ensures { key_of result ≡ slot_of row.now }
 {
     if row.insert {
-        KeyRef::Elem(row.id.lend())
+        KeyRef::Elem(row.id)
     } else {
-        row.key.lend()
+        row.key
     }
 }
 
@@ -34,26 +35,26 @@ fn slot_follows(a: KeyRef<'_>, b: KeyRef<'_>) -> bool
 }
 
 /// The row may be the first of its slot.
-fn opens(row: &Row) -> bool
+fn opens(row: &LentRow<'_>) -> bool
     ensures { result ≡ may_open row.now }
 {
-    row.insert || matches!(&row.key, Key::Name(_))
+    row.insert || matches!(row.key, KeyRef::Name(_))
 }
 
 /// In one object: in the same slot a greater id, or a new slot.
-fn follows_in(last: &Row, row: &Row) -> bool
+fn follows_in(last: &LentRow<'_>, row: &LentRow<'_>) -> bool
     ensures { result ≡ may_come_in last.now row.now }
 {
     let (before, behind) = (slot(last), slot(row));
     if same_key(before, behind) {
-        compare_ids(last.id.lend(), row.id.lend()).is_lt()
+        compare_ids(last.id, row.id).is_lt()
     } else {
         slot_follows(before, behind) && opens(row)
     }
 }
 
 /// The row may come directly behind the last, whose object comes so to that of the row.
-fn follows(objects: Ordering, last: &Row, row: &Row) -> bool
+fn follows(objects: Ordering, last: &LentRow<'_>, row: &LentRow<'_>) -> bool
     ensures { result ≡ by_object objects last.now row.now }
 {
     match objects {
@@ -64,22 +65,26 @@ fn follows(objects: Ordering, last: &Row, row: &Row) -> bool
 }
 
 /// The path after the row.
-fn walk_on<'a>(stack: &mut Vec<StopRef<'a>>, row: &'a Row) -> Result<(), AllocError>
+fn walk_on<'a>(stack: &mut Vec<StopRef<'a>>, row: &LentRow<'a>) -> Result<(), AllocError>
     ensures { OnOk result (path_of stack.new.items ≡ moved (path_of stack.old.items) row.now) }
 {
     if row.insert {
-        go_back(stack, row.key.lend());
-        put(stack, row.id.lend())?;
+        go_back(stack, row.key);
+        put(stack, row.id)?;
     }
     Ok(())
 }
 
 /// Takes the row behind the last, where it may come there, and the path on.
-fn take_row<'a>(stack: &mut Vec<StopRef<'a>>, last: &Row, row: &'a Row) -> Result<bool, AllocError>
+fn take_row<'a>(
+    stack: &mut Vec<StopRef<'a>>,
+    last: &LentRow<'_>,
+    row: &LentRow<'a>,
+) -> Result<bool, AllocError>
     ensures may { IfOk result (λ taken. taken ≡ may_come last.now row.now) }
     ensures path { IfOk result (λ taken. taken ≡ true → path_of stack.new.items ≡ moved (path_into last.now (path_of stack.old.items) row.now) row.now) }
 {
-    let objects = compare_objects(last.obj.lend(), row.obj.lend());
+    let objects = compare_objects(last.obj, row.obj);
     if !follows(objects, last, row) {
         return Ok(false);
     }
@@ -90,8 +95,8 @@ fn take_row<'a>(stack: &mut Vec<StopRef<'a>>, last: &Row, row: &'a Row) -> Resul
     Ok(true)
 }
 
-/// Whether the rows are in document order.
-pub fn rows_in_order(alloc: Global, rows: &[Row]) -> Result<bool, AllocError>
+/// Whether the lent rows are in document order.
+pub(crate) fn lent_in_order(alloc: Global, rows: &[LentRow<'_>]) -> Result<bool, AllocError>
     ensures { IfOk result (λ told. told ≡ one_pass rows.now) }
 {
     let Some((first, rest)) = rows.split_first() else {
@@ -111,4 +116,12 @@ pub fn rows_in_order(alloc: Global, rows: &[Row]) -> Result<bool, AllocError>
         last = row;
     }
     Ok(is_going(&stack))
+}
+
+/// Whether the rows are in document order.
+pub fn rows_in_order(alloc: Global, rows: &[Row]) -> Result<bool, AllocError>
+    ensures { IfOk result (λ told. told ≡ one_pass rows.now) }
+{
+    let lent = lend_rows(alloc, rows)?;
+    lent_in_order(alloc, &lent)
 }

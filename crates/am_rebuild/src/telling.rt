@@ -1,16 +1,18 @@
 //! Whether rows tell just the operations that were rebuilt from them, and stand in order.
-ghost use Rattle.std.specs.Prelude.{◌≡◌, ◌≢◌, ◌↔◌, List, All, AllPairs, IsTrue, IfOk, None, map, filter, option_map};
+ghost use Rattle.std.specs.Prelude.{◌≡◌, ◌≢◌, ◌↔◌, All, IsTrue, IfOk, None, map, filter, option_map};
+ghost use Rattle.std.specs.Ordering.{on};
 ghost use Rattle.am_types.specs.declared.Row.{Row};
 ghost use Rattle.am_types.specs.Actions as actions;
 ghost use Rattle.am_types.specs.Order.{id_cmp, Ascends};
 ghost use Rattle.am_types.specs.Views.{id_of};
 ghost use Rattle.am_rebuild.specs.Mentions.{AreSortedMentions};
-ghost use Rattle.am_rebuild.specs.Told.{is_last, ids_behind, differ_from, TellsIds, TellsRest};
+ghost use Rattle.am_rebuild.specs.Told.{is_last, ids_behind, differ_from, TellsIds};
 
 use crate::group::DELETION;
+use crate::lent::LentRow;
 use crate::mention::Named;
-use crate::order::rows_in_order;
-use am_types::{IdRef, OpId, Row, compare_ids, same_id};
+use crate::order::lent_in_order;
+use am_types::{IdRef, compare_ids, same_id};
 use std::alloc::{AllocError, Global};
 use std::cmp::Ordering;
 
@@ -55,25 +57,32 @@ fn own_ids_differ(all: &[Named<'_>]) -> bool
 }
 
 /// Whether each id is below the next.
-fn ids_ascend(ids: &[OpId]) -> bool
-    ensures { IsTrue result ↔ Ascends id_cmp ids.now }
+fn ids_ascend(ids: &[IdRef<'_>]) -> bool
+    ensures { IsTrue result ↔ Ascends (on id_of id_cmp) ids.now }
 {
     for i in 1..ids.len() {
-        if compare_ids(ids[i - 1].lend(), ids[i].lend()) != Ordering::Less {
+        if compare_ids(ids[i - 1], ids[i]) != Ordering::Less {
             return false;
         }
     }
     true
 }
 
-/// Whether the row is no deletion's, and its succs ascend.
-fn is_kept(row: &Row) -> bool
-    ensures { IsTrue result ↔ ((row.now.action ≢ actions.del) × Ascends id_cmp row.now.succs) }
+/// Whether the succs of the row ascend.
+fn succs_ascend(row: &LentRow<'_>) -> bool
+    ensures { IsTrue result ↔ Ascends id_cmp row.now.succs }
 {
-    row.action != DELETION && ids_ascend(row.succs.as_slice())
+    ids_ascend(row.succs.as_slice())
 }
 
-fn are_kept(rows: &[Row]) -> bool
+/// Whether the row is no deletion's, and its succs ascend.
+fn is_kept(row: &LentRow<'_>) -> bool
+    ensures { IsTrue result ↔ ((row.now.action ≢ actions.del) × Ascends id_cmp row.now.succs) }
+{
+    row.action != DELETION && succs_ascend(row)
+}
+
+fn are_kept(rows: &[LentRow<'_>]) -> bool
     ensures { IsTrue result ↔ All (λ r. (r.action ≢ actions.del) × Ascends id_cmp r.succs) rows.now }
 {
     rows.iter().all(|row| is_kept(row))
@@ -83,7 +92,7 @@ fn are_kept(rows: &[Row]) -> bool
 /// deletion, with succs that ascend, and they are in document order.
 pub(crate) fn ids_told(
     alloc: Global,
-    rows: &[Row],
+    rows: &[LentRow<'_>],
     all: &[Named<'_>],
 ) -> Result<Option<u64>, AllocError>
     requires { AreSortedMentions rows.now all.now }
@@ -92,20 +101,10 @@ pub(crate) fn ids_told(
     if !own_ids_differ(all) || !are_kept(rows) {
         return Ok(None);
     }
-    let told = rows_in_order(alloc, rows)?;
+    let told = lent_in_order(alloc, rows)?;
     if told {
         Ok(Some(count_ids(all) as u64))
     } else {
         Ok(None)
-    }
-}
-
-/// Whether as many ids were told.
-pub(crate) fn is_told(told: Option<u64>, count: u64) -> bool
-    ensures { (rows : List Row) → TellsIds rows told → IsTrue result ↔ TellsRest rows count }
-{
-    match told {
-        None => false,
-        Some(ids) => ids == count,
     }
 }

@@ -1,0 +1,180 @@
+//! Rows that are lent, from the columns of a document or from rows.
+ghost use Rattle.std.specs.Prelude.{◌≡◌, IfOk, map, option_map};
+ghost use Rattle.std.specs.List.{AllByRecursion};
+ghost use Rattle.am_types.specs.Views.{id_of, key_of, object_of};
+ghost use Rattle.am_fields.specs.Limits.{IsShortActor};
+ghost use Rattle.am_doccols.specs.Rows.{row_of};
+ghost use Rattle.am_rebuild.specs.Copied.{IsObjectShort, IsKeyShort, IsCopied};
+
+use am_doccols::{RowCursor, RowRef, SuccCursor};
+use am_types::{IdRef, Key, KeyRef, ObjId, ObjRef, OpId, Row, Text, ValueRef};
+use std::alloc::{AllocError, Global};
+use std::marker::Model;
+
+/// A row that is lent. Only the list of its successors takes memory, if it has any. Contracts see the row; the actors of its
+/// object, place and id are as long as actors may be.
+#[derive(Drop)]
+pub struct LentRow<'a> {
+    pub(crate) obj: ObjRef<'a>,
+    pub(crate) key: KeyRef<'a>,
+    pub(crate) id: IdRef<'a>,
+    pub(crate) insert: bool,
+    pub(crate) action: u8,
+    pub(crate) value: ValueRef<'a>,
+    pub(crate) succs: Vec<IdRef<'a>>,
+    pub(crate) expand: bool,
+    pub(crate) mark: Option<&'a str>,
+}
+
+impl<'a> Model for LentRow<'a> {
+    ghost use Rattle.am_types.specs.declared.Row.{Row};
+    ghost use Rattle.am_rebuild.specs.Copied.{IsCopied};
+
+    ghost Value = { Row };
+
+    ghost use Rattle.am_rebuild.specs.Lent.{lent_row};
+
+    ghost view = { lent_row };
+
+    ghost invariant = { λ r. IsCopied (lent_row r) };
+}
+
+impl<'a> LentRow<'a> {
+    /// Its id.
+    pub(crate) fn id(&self) -> IdRef<'a>
+        ensures id { id_of result ≡ self.now.id }
+        ensures short { IsShortActor self.now.id.actor }
+    {
+        self.id
+    }
+}
+
+// ---- from the columns of a document
+
+fn succs_in<'a>(alloc: Global, succs: SuccCursor<'a>) -> Result<Vec<IdRef<'a>>, AllocError>
+    ensures { IfOk result (λ lent. map id_of lent.items ≡ succs.entry) }
+{
+    let mut rest = succs;
+    let Some(first) = rest.next() else {
+        return Ok(Vec::new(alloc));
+    };
+    // Most rows that have successors have one.
+    let mut lent = Vec::with_capacity(alloc, 1)?;
+    lent.push(first)?;
+    while let Some(id) = rest.next() {
+        lent.push(id)?;
+    }
+    Ok(lent)
+}
+
+fn row_in<'a>(alloc: Global, row: RowRef<'a>) -> Result<LentRow<'a>, AllocError>
+    requires { IsCopied (row_of row) }
+    ensures { IfOk result (λ lent. lent ≡ row_of row.entry) }
+{
+    Ok(LentRow {
+        obj: row.obj,
+        key: row.key,
+        id: row.id,
+        insert: row.insert,
+        action: row.action,
+        value: row.value,
+        succs: succs_in(alloc, row.succs)?,
+        expand: row.expand,
+        mark: row.mark,
+    })
+}
+
+/// The rows of a document.
+pub(crate) fn rows_in<'a>(
+    alloc: Global,
+    rows: RowCursor<'a>,
+) -> Result<Vec<LentRow<'a>>, AllocError>
+    requires { AllByRecursion IsCopied rows }
+    ensures { IfOk result (λ lent. lent.items ≡ rows.entry) }
+{
+    let mut lent = Vec::with_capacity(alloc, rows.left() as usize)?;
+    let mut rest = rows;
+    while let Some(row) = rest.next() {
+        lent.push(row_in(alloc, row)?)?;
+    }
+    Ok(lent)
+}
+
+// ---- from rows
+
+fn lend_id(id: &OpId) -> IdRef<'_>
+    ensures lent { id_of result ≡ id.now }
+    ensures short { IsShortActor id.now.actor }
+{
+    IdRef {
+        counter: id.counter,
+        actor: id.actor.as_slice(),
+    }
+}
+
+fn lend_object(object: &ObjId) -> ObjRef<'_>
+    ensures lent { object_of result ≡ object.now }
+    ensures short { IsObjectShort object.now }
+{
+    match object {
+        ObjId::Root => ObjRef::Root,
+        ObjId::Made(id) => ObjRef::Made(lend_id(id)),
+    }
+}
+
+fn lend_key(key: &Key) -> KeyRef<'_>
+    ensures lent { key_of result ≡ key.now }
+    ensures short { IsKeyShort key.now }
+{
+    match key {
+        Key::Name(name) => KeyRef::Name(name.as_str()),
+        Key::Head => KeyRef::Head,
+        Key::Elem(id) => KeyRef::Elem(lend_id(id)),
+    }
+}
+
+fn lend_ids<'a>(alloc: Global, ids: &'a [OpId]) -> Result<Vec<IdRef<'a>>, AllocError>
+    ensures { IfOk result (λ lent. map id_of lent.items ≡ ids.now) }
+{
+    let mut lent = Vec::with_capacity(alloc, ids.len())?;
+    for id in ids {
+        lent.push(id.lend())?;
+    }
+    Ok(lent)
+}
+
+fn lend_mark(mark: &Option<Text>) -> Option<&str>
+    ensures { option_map (λ s. s.now) result ≡ mark.now }
+{
+    match mark {
+        None => None,
+        Some(name) => Some(name.as_str()),
+    }
+}
+
+fn lend_row<'a>(alloc: Global, row: &'a Row) -> Result<LentRow<'a>, AllocError>
+    ensures { IfOk result (λ lent. lent ≡ row.now) }
+{
+    Ok(LentRow {
+        obj: lend_object(&row.obj),
+        key: lend_key(&row.key),
+        id: lend_id(&row.id),
+        insert: row.insert,
+        action: row.action,
+        value: row.value.lend(),
+        succs: lend_ids(alloc, row.succs.as_slice())?,
+        expand: row.expand,
+        mark: lend_mark(&row.mark),
+    })
+}
+
+/// These rows.
+pub(crate) fn lend_rows<'a>(alloc: Global, rows: &'a [Row]) -> Result<Vec<LentRow<'a>>, AllocError>
+    ensures { IfOk result (λ lent. lent.items ≡ rows.now) }
+{
+    let mut lent = Vec::with_capacity(alloc, rows.len())?;
+    for row in rows {
+        lent.push(lend_row(alloc, row)?)?;
+    }
+    Ok(lent)
+}
