@@ -11,7 +11,7 @@ use crate::lent::{LentRow, lend_rows};
 use crate::mention::sorted_mentions;
 use crate::names::names_in;
 use crate::telling::ids_told;
-use am_types::{ActorId, Hash, Meta, Table};
+use am_types::{ActorId, Hash, Meta, Table, compare_actors};
 use std::alloc::{AllocError, Global};
 use std::cmp::Ordering;
 
@@ -37,7 +37,7 @@ fn actors_ascend(actors: &[ActorId]) -> bool
     ensures { IsTrue result ↔ Ascends bytes_cmp actors.now }
 {
     for i in 1..actors.len() {
-        if actors[i - 1].as_slice().cmp(actors[i].as_slice()) != Ordering::Less {
+        if compare_actors(actors[i - 1].as_slice(), actors[i].as_slice()) != Ordering::Less {
             return false;
         }
     }

@@ -5,7 +5,7 @@ ghost use Rattle.std.specs.Ordering.{is_lt};
 ghost use Rattle.am_types.specs.Order.{bytes_cmp};
 ghost use Rattle.am_rebuild.specs.Names.{names_of, IsPlaceOf};
 
-use am_types::ActorId;
+use am_types::{ActorId, compare_actors, same_actor};
 use std::alloc::{AllocError, Global};
 use std::cmp::Ordering;
 
@@ -26,7 +26,7 @@ fn is_at(names: &[&[u8]], place: usize, actor: &[u8]) -> bool
 {
     match names.get(place) {
         None => false,
-        Some(name) => *name == actor,
+        Some(name) => same_actor(*name, actor),
     }
 }
 
@@ -42,6 +42,6 @@ pub(crate) fn place_of(names: &[&[u8]], last: usize, actor: &[u8]) -> usize
     names.partition_point(
         |name: &&[u8]| -> bool
             ensures { result ≡ is_lt (bytes_cmp name.now.now actor.entry.now) }
-        { name.cmp(actor) == Ordering::Less },
+        { compare_actors(*name, actor) == Ordering::Less },
     )
 }
