@@ -46,4 +46,3 @@ pub mod Unnamed
 pub mod Carried
 pub mod RowsText
 pub mod Fronts
-pub mod Turning
