@@ -8,7 +8,7 @@ ghost use Rattle.am_merge.specs.Spots.{spot_in};
 ghost use Rattle.am_merge.specs.Walk.{falling_id, id_turn_cmp, lane_cmp, lane_of, name_in, rising_id, spot_cmp, spot_of};
 
 use am_places::Numbered;
-use am_types::{IdRef, KeyRef, ObjRef, compare_bytes, compare_ids, compare_objects};
+use am_types::{IdRef, KeyRef, ObjRef, compare_ids, compare_objects};
 use std::cmp::Ordering;
 
 /// What the walk compares of a row or of an operation, lent.
@@ -85,7 +85,7 @@ pub fn compare_turns(a: &SpotRef<'_>, b: &SpotRef<'_>) -> Ordering
 fn compare_names(a: &SpotRef<'_>, b: &SpotRef<'_>) -> Ordering
     ensures { result ≡ ordering_then (bytes_cmp (name_in (key_of a.now.key)) (name_in (key_of b.now.key))) (id_turn_cmp (spot_in a.now) (spot_in b.now)) }
 {
-    match compare_bytes(name(a).as_bytes(), name(b).as_bytes()) {
+    match name(a).cmp(name(b)) {
         Ordering::Less => Ordering::Less,
         Ordering::Equal => compare_turns(a, b),
         Ordering::Greater => Ordering::Greater,

@@ -15,7 +15,7 @@ use crate::cursor::OpCursor;
 use crate::op::OpRef;
 use am_colmeta::ActorList;
 use am_fields::IdCursor;
-use am_types::{KeyRef, ObjRef, compare_bytes, same_actor};
+use am_types::{KeyRef, ObjRef, same_actor};
 use std::cmp::Ordering;
 
 // Whether the two are one actor.
@@ -112,7 +112,7 @@ pub fn ascend(actors: &ActorList<'_>) -> bool
     };
     let mut before = first;
     while let Some(actor) = rest.next() {
-        if compare_bytes(before, actor) != Ordering::Less {
+        if before.cmp(actor) != Ordering::Less {
             return false;
         }
         before = actor;

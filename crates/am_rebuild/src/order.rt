@@ -8,7 +8,7 @@ ghost use Rattle.am_rebuild.specs.Stops.{path_of};
 
 use crate::lent::{LentRow, lend_rows};
 use crate::path::{StopRef, go_back, is_going, put, restart};
-use am_types::{KeyRef, Row, compare_bytes, compare_ids, compare_objects, same_key};
+use am_types::{KeyRef, Row, compare_ids, compare_objects, same_key};
 use std::alloc::{AllocError, Global};
 use std::cmp::Ordering;
 
@@ -27,7 +27,7 @@ fn slot_follows(a: KeyRef<'_>, b: KeyRef<'_>) -> bool
     ensures { result ≡ slot_may_come (key_of a.entry) (key_of b.entry) }
 {
     match (a, b) {
-        (KeyRef::Name(a), KeyRef::Name(b)) => compare_bytes(a.as_bytes(), b.as_bytes()).is_lt(),
+        (KeyRef::Name(a), KeyRef::Name(b)) => a.cmp(b).is_lt(),
         (KeyRef::Name(_), KeyRef::Elem(_)) => true,
         (KeyRef::Elem(_), KeyRef::Elem(_)) => true,
         _ => false,
