@@ -56,8 +56,8 @@ pub fn same_bytes(a: &[u8], b: &[u8]) -> bool
     same_actor(a, b)
 }
 
-/// The order of bytes: one after another, and fewer before those that they begin. Most that are compared differ soon.
-pub fn compare_bytes(a: &[u8], b: &[u8]) -> Ordering
+// The order of few bytes: one after another.
+fn compare_few(a: &[u8], b: &[u8]) -> Ordering
     ensures { result ≡ bytes_cmp a.now b.now }
 {
     match (a.split_first(), b.split_first()) {
@@ -66,10 +66,21 @@ pub fn compare_bytes(a: &[u8], b: &[u8]) -> Ordering
         (Some(_), None) => Ordering::Greater,
         (Some((x, xs)), Some((y, ys))) => match x.cmp(y) {
             Ordering::Less => Ordering::Less,
-            Ordering::Equal => compare_bytes(xs, ys),
+            Ordering::Equal => compare_few(xs, ys),
             Ordering::Greater => Ordering::Greater,
         },
     }
+}
+
+/// The order of bytes: one after another, and fewer before those that they begin. Most that are compared are few, or differ
+/// soon.
+pub fn compare_bytes(a: &[u8], b: &[u8]) -> Ordering
+    ensures { result ≡ bytes_cmp a.now b.now }
+{
+    if a.len() > 32 && b.len() > 32 {
+        return a.cmp(b);
+    }
+    compare_few(a, b)
 }
 
 /// The order of actors, which is that of their bytes.

@@ -1,6 +1,7 @@
 //! The plain data that all crates share, and the definitions of histories over it.
 #![tactic(auto)]
 
+pub mod actions;
 mod actor;
 mod byte_strings;
 mod bytes;
@@ -9,6 +10,7 @@ mod compare;
 mod document;
 mod hash;
 mod ids;
+pub mod kinds;
 mod known;
 mod limits;
 mod list;
@@ -29,7 +31,9 @@ pub use document::{Document, Entry, Meta, Row, Table};
 pub use hash::Hash;
 pub use ids::{Key, ObjId, OpId};
 pub use known::{hash_known, hashes_known, slice_known, str_known};
-pub use limits::{GREATEST_COUNTER, LONGEST_ACTOR, MOST_CHANGES, MOST_OPERATIONS};
+pub use limits::{
+    GREATEST_COUNTER, GREATEST_TIME, LONGEST_ACTOR, MOST_BYTES, MOST_CHANGES, MOST_OPERATIONS,
+};
 pub use list::List;
 pub use refs::{EntryRef, IdRef, KeyRef, ObjRef, ValueRef, compare_ids};
 pub use sharing::SharedActors;

@@ -11,6 +11,14 @@ use crate::text::Text;
 use crate::value::RawValue;
 use std::alloc::{AllocError, Global};
 
+// The struct whose first fields are copied, in this order, and whose others are plain.
+macro_rules! copied {
+    ($from:expr, $alloc:expr, $name:ident { $($field:ident),*; $($plain:ident),* }) => {{
+        $(let $field = $from.$field.copy($alloc)?;)*
+        Ok($name { $($field,)* $($plain: $from.$plain,)* })
+    }};
+}
+
 /// A value that can be copied, given memory.
 pub trait Twin {
     /// An equal value.
@@ -67,11 +75,7 @@ impl<T: Twin> Twin for Option<T> {
 
 impl Twin for OpId {
     fn copy(&self, alloc: Global) -> Result<OpId, AllocError> {
-        let actor = self.actor.copy(alloc)?;
-        Ok(OpId {
-            counter: self.counter,
-            actor,
-        })
+        copied!(self, alloc, OpId { actor; counter })
     }
 }
 
@@ -96,131 +100,48 @@ impl Twin for Key {
 
 impl Twin for RawValue {
     fn copy(&self, alloc: Global) -> Result<RawValue, AllocError> {
-        let raw = self.raw.copy(alloc)?;
-        Ok(RawValue {
-            kind: self.kind,
-            raw,
-        })
+        copied!(self, alloc, RawValue { raw; kind })
     }
 }
 
 impl Twin for Op {
     fn copy(&self, alloc: Global) -> Result<Op, AllocError> {
-        let obj = self.obj.copy(alloc)?;
-        let key = self.key.copy(alloc)?;
-        let value = self.value.copy(alloc)?;
-        let preds = self.preds.copy(alloc)?;
-        let mark = self.mark.copy(alloc)?;
-        Ok(Op {
-            obj,
-            key,
-            insert: self.insert,
-            action: self.action,
-            value,
-            preds,
-            expand: self.expand,
-            mark,
-        })
+        copied!(self, alloc, Op { obj, key, value, preds, mark; insert, action, expand })
     }
 }
 
 impl Twin for Change {
     fn copy(&self, alloc: Global) -> Result<Change, AllocError> {
-        let deps = self.deps.copy(alloc)?;
-        let actor = self.actor.copy(alloc)?;
-        let message = self.message.copy(alloc)?;
-        let ops = self.ops.copy(alloc)?;
-        let extra = self.extra.copy(alloc)?;
-        Ok(Change {
-            deps,
-            actor,
-            seq: self.seq,
-            start: self.start,
-            time: self.time,
-            message,
-            ops,
-            extra,
-        })
+        copied!(self, alloc, Change { deps, actor, message, ops, extra; seq, start, time })
     }
 }
 
 impl Twin for Row {
     fn copy(&self, alloc: Global) -> Result<Row, AllocError> {
-        let obj = self.obj.copy(alloc)?;
-        let key = self.key.copy(alloc)?;
-        let id = self.id.copy(alloc)?;
-        let value = self.value.copy(alloc)?;
-        let succs = self.succs.copy(alloc)?;
-        let mark = self.mark.copy(alloc)?;
-        Ok(Row {
-            obj,
-            key,
-            id,
-            insert: self.insert,
-            action: self.action,
-            value,
-            succs,
-            expand: self.expand,
-            mark,
-        })
+        copied!(self, alloc, Row { obj, key, id, value, succs, mark; insert, action, expand })
     }
 }
 
 impl Twin for Meta {
     fn copy(&self, alloc: Global) -> Result<Meta, AllocError> {
-        let actor = self.actor.copy(alloc)?;
-        let message = self.message.copy(alloc)?;
-        let deps = self.deps.copy(alloc)?;
-        let extra = self.extra.copy(alloc)?;
-        Ok(Meta {
-            actor,
-            seq: self.seq,
-            max: self.max,
-            time: self.time,
-            message,
-            deps,
-            extra,
-        })
+        copied!(self, alloc, Meta { actor, message, deps, extra; seq, max, time })
     }
 }
 
 impl Twin for Table {
     fn copy(&self, alloc: Global) -> Result<Table, AllocError> {
-        let actors = self.actors.copy(alloc)?;
-        let heads = self.heads.copy(alloc)?;
-        let metas = self.metas.copy(alloc)?;
-        let rows = self.rows.copy(alloc)?;
-        let suffix = self.suffix.copy(alloc)?;
-        Ok(Table {
-            actors,
-            heads,
-            metas,
-            rows,
-            suffix,
-        })
+        copied!(self, alloc, Table { actors, heads, metas, rows, suffix; })
     }
 }
 
 impl Twin for Entry {
     fn copy(&self, alloc: Global) -> Result<Entry, AllocError> {
-        let obj = self.obj.copy(alloc)?;
-        let slot = self.slot.copy(alloc)?;
-        let id = self.id.copy(alloc)?;
-        let value = self.value.copy(alloc)?;
-        Ok(Entry {
-            obj,
-            slot,
-            id,
-            action: self.action,
-            value,
-            total: self.total,
-        })
+        copied!(self, alloc, Entry { obj, slot, id, value; action, total })
     }
 }
 
 impl Twin for Document {
     fn copy(&self, alloc: Global) -> Result<Document, AllocError> {
-        let entries = self.entries.copy(alloc)?;
-        Ok(Document { entries })
+        copied!(self, alloc, Document { entries; })
     }
 }
