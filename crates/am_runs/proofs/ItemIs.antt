@@ -9,18 +9,9 @@ use Rattle.am_leb.specs.Leb.{uleb, leb, unsigned_value, signed_value}
 use Rattle.am_leb.specs.Reading.{first_unsigned, first_signed, from_magnitude}
 use Rattle.am_leb.proofs.Laws.{uleb_is}
 use Rattle.am_leb.proofs.SignedLaws.{leb_is, signs}
-use Rattle.am_leb.proofs.Answering.{IsBytes, first_unsigned-front, first_unsigned-uleb, first_signed-front, first_signed-fits, first_signed-leb}
+use Rattle.am_leb.proofs.Answering.{IsBytes, first_unsigned-front, first_unsigned-uleb, first_signed-fits, first_signed-leb}
 use Rattle.am_runs.specs.Items.{IsItem, length_read, unsigned_end, signed_end, text_end, text_spelling, text_of, behind_number}
-use Rattle.am_runs.specs.ItemLaws.{read_ok, text_found, text_stands}
-
-nothing_behind : (bytes : List ℕ) (n : ℕ) → n ≡ length bytes → drop n bytes ≡ []
-nothing_behind bytes n e = ap (λ b. drop n b) (sym (append-nil bytes)) ∙ drop_at bytes [] n (sym e)
-
-pub unsigned_is : (x : List ℕ) → IsBytes x → IsItem unsigned_end x → (n : ℕ) × (n < 2 ^ 64) × (x ≡ uleb n)
-unsigned_is x f e =
-    let w = read_ok (first_unsigned x) (length x) e in
-    let v = first_unsigned-front x (w.0).0 (w.0).1 f w.1 in
-    ((w.0).0, v.0, v.2 ∙ ap (λ b. uleb (w.0).0 ++ b) (nothing_behind x (w.0).1 w.2) ∙ append-nil (uleb (w.0).0))
+use Rattle.am_runs.specs.ItemLaws.{signed_read, text_found, text_stands}
 
 pub unsigned_item : (n : ℕ) → n < 2 ^ 64 → IsItem unsigned_end (uleb n)
 unsigned_item n h = ap length_read (ap first_unsigned (sym (append-nil (uleb n))) ∙ first_unsigned-uleb n [] h)
@@ -35,10 +26,9 @@ magnitude_fits true n h = grind (arith, ints, rules)
 
 pub signed_is : (x : List ℕ) → IsBytes x → IsItem signed_end x → (z : ℤ) × FitsSigned w64 z × (x ≡ leb z)
 signed_is x f e =
-    let w = read_ok (first_signed x) (length x) e in
-    let v = first_signed-front x (w.0).0 (w.0).1 f w.1 in
-    let g = first_signed-fits x (w.0).0 (w.0).1 w.1 in
-    ((w.0).0, subst (FitsSigned w64) (sym g.3) (fits_magnitude g.0 g.1 g.2), v ∙ ap (λ b. leb (w.0).0 ++ b) (nothing_behind x (w.0).1 w.2) ∙ append-nil (leb (w.0).0))
+    let w = signed_read x f e in
+    let g = first_signed-fits x w.0 w.1 w.2 in
+    (w.0, subst (FitsSigned w64) (sym g.3) (fits_magnitude g.0 g.1 g.2), w.3)
 
 pub signed_item : (z : ℤ) → FitsSigned w64 z → IsItem signed_end (leb z)
 signed_item z h =

@@ -10,7 +10,7 @@ use Rattle.am_runs.specs.declared.place.Kind.TheVariants as kinds
 use Rattle.am_leb.specs.Leb.{leb, signed_value}
 use Rattle.am_leb.proofs.Answering.{IsBytes}
 use Rattle.am_runs.specs.Items.{IsItem, ReadsItems, signed_end}
-use Rattle.am_runs.specs.ItemLaws.{signed_reads}
+use Rattle.am_runs.specs.ItemLaws.{signed_reads, signed_again}
 use Rattle.am_runs.specs.Typed.{AllItems}
 use Rattle.am_runs.specs.Canonical.{NoEqualNeighbours}
 use Rattle.am_runs.specs.Pending.{Holds, written_so_far, IsWriting}
@@ -26,7 +26,7 @@ use Rattle.am_runs.proofs.Alike.{room_for}
 use Rattle.am_runs.proofs.Entries.{entries-step, HasEntries-step}
 use Rattle.am_runs.proofs.Walks.{item_step}
 use Rattle.am_runs.proofs.Counted.{literal-holds, literal-entries, counted_none}
-use Rattle.am_runs.proofs.Spelled.{AllBytes, AllBytes-from, left_bytes, of_literal, respelled, signed_again}
+use Rattle.am_runs.proofs.Spelled.{AllBytes, AllBytes-from, left_bytes, of_literal, respelled}
 
 -- ---- what begins the bytes
 

@@ -8,11 +8,11 @@ use Rattle.am_leb.proofs.Answering.{IsBytes}
 use Rattle.am_runs.specs.Items.{IsItem, unsigned_end, signed_end, text_end, text_spelling, text_of}
 use Rattle.am_runs.specs.Runs.{Run, Repeat, Literal, Nulls, expansion, bytes_of, JoinsRuns}
 use Rattle.am_runs.specs.Typed.{AllItems, JoinsUnsigned, JoinsSigned}
-use Rattle.am_runs.specs.ItemLaws.{unsigned_reads, signed_reads}
+use Rattle.am_runs.specs.ItemLaws.{unsigned_reads, signed_reads, unsigned_again, signed_again}
 use Rattle.am_runs.proofs.Unique.{one_list}
 use Rattle.am_runs.proofs.Opening.{joined}
 use Rattle.am_runs.proofs.ItemsOf.{JoinsRuns-items}
-use Rattle.am_runs.proofs.ItemIs.{unsigned_is, signed_is, text_is, unsigned_value-uleb, signed_value-leb, text_of-spelling}
+use Rattle.am_runs.proofs.ItemIs.{text_is, unsigned_value-uleb, signed_value-leb, text_of-spelling}
 
 abbrev pub AllBytes : List ℕ → Type 0
 AllBytes bytes = AllByRecursion (λ b. b < 256) bytes
@@ -70,16 +70,10 @@ respelled end read spell f (Some x ∷ list) p q =
     let h = f x (IsBytes-from x q.0) p.0 in
     ap (λ y. Some y ∷ map (option_map spell) (map (option_map read) list)) h ∙ ap (λ l. Some x ∷ l) (respelled end read spell f list p.1 q.1)
 
-unsigned_again : (x : List ℕ) → IsBytes x → IsItem unsigned_end x → uleb (unsigned_value x) ≡ x
-unsigned_again x f e = let w = unsigned_is x f e in ap uleb (ap unsigned_value w.2 ∙ unsigned_value-uleb w.0) ∙ sym w.2
-
-pub signed_again : (x : List ℕ) → IsBytes x → IsItem signed_end x → leb (signed_value x) ≡ x
-signed_again x f e = let w = signed_is x f e in ap leb (ap signed_value w.2 ∙ signed_value-leb w.0) ∙ sym w.2
-
 text_again : (x : List ℕ) → IsBytes x → IsItem text_end x → text_spelling (text_of x) ≡ x
 text_again x f e = let w = text_is x f e in ap text_spelling (ap text_of w.3 ∙ text_of-spelling w.0 w.2) ∙ sym w.3
 
-joins_again : {A : Type 0} (end : List ℕ → Option ℕ) (read : List ℕ → A) (spell : A → List ℕ) → ((x : List ℕ) → IsBytes x → IsItem end x → spell (read x) ≡ x) → (bytes : List ℕ) (list : List (Option (List ℕ))) → IsBytes bytes → JoinsRuns end bytes list → JoinsRuns end bytes (map (option_map spell) (map (option_map read) list))
+pub joins_again : {A : Type 0} (end : List ℕ → Option ℕ) (read : List ℕ → A) (spell : A → List ℕ) → ((x : List ℕ) → IsBytes x → IsItem end x → spell (read x) ≡ x) → (bytes : List ℕ) (list : List (Option (List ℕ))) → IsBytes bytes → JoinsRuns end bytes list → JoinsRuns end bytes (map (option_map spell) (map (option_map read) list))
 joins_again end read spell again bytes list f j = subst (JoinsRuns end bytes) (sym (respelled end read spell again list (JoinsRuns-items end bytes list j) (bytes_of_entries end bytes list f j))) j
 
 pub joins_unsigned : (bytes : List ℕ) (list : List (Option (List ℕ))) → IsBytes bytes → JoinsRuns unsigned_end bytes list → JoinsRuns unsigned_end bytes (map (option_map uleb) (map (option_map unsigned_value) list))

@@ -1,13 +1,16 @@
--- The three kinds of items keep what is asked of `end`: it reads within the bytes, and no item begins another.
-use Rattle.std.proofs.Common.{◌≡◌, ℕ, ◌+◌, ◌-◌, ◌≤◌, Bool, true, false, nat_le, ◌&&◌, cond, List, [], ◌++◌, length, take, drop, Some, None, Result, Ok, Err, refl, sym, ap, ◌∙◌, arith, append_assoc, length-append}
+-- The three kinds of items keep what is asked of `end`: it reads within the bytes, and no item begins another. An item of a number is the spelling of what it spells.
+use Rattle.std.proofs.Common.{◌≡◌, ℕ, ℤ, ◌+◌, ◌-◌, ◌<◌, ◌≤◌, ◌^◌, Bool, true, false, nat_le, ◌&&◌, cond, List, [], ◌++◌, length, take, drop, Some, None, Result, Ok, Err, refl, sym, ap, ◌∙◌, arith, append_assoc, length-append}
 use Rattle.std.specs.Str.{is_utf8}
 use Rattle.std.proofs.lemmas.Bool.Decides.{nat_tests}
 use Rattle.std.proofs.lemmas.List.{append-nil, length-take-le, length-drop, take_all, take_at, drop_at, take-append-drop, drop-take}
 use Rattle.std.proofs.Math.Seq.{take-append-add}
 use Rattle.am_leb.specs.declared.LebFault.{LebFault}
+use Rattle.am_leb.specs.Leb.{uleb, leb, unsigned_value, signed_value}
 use Rattle.am_leb.specs.Reading.{first_unsigned, first_signed}
-use Rattle.am_leb.proofs.Answering.{first_unsigned-prefix, first_signed-prefix}
-use Rattle.am_runs.specs.Items.{ReadsItems, length_read, unsigned_end, signed_end, text_end_by, text_end}
+use Rattle.am_leb.proofs.Laws.{uleb_is}
+use Rattle.am_leb.proofs.SignedLaws.{leb_is}
+use Rattle.am_leb.proofs.Answering.{IsBytes, first_unsigned-prefix, first_signed-prefix, first_unsigned-front, first_signed-front}
+use Rattle.am_runs.specs.Items.{ReadsItems, IsItem, length_read, unsigned_end, signed_end, text_end_by, text_end}
 
 pub read_ok : {A : Type 0} (r : Result (A × ℕ) LebFault) (n : ℕ) → length_read r ≡ Some n → (x : A × ℕ) × (r ≡ Ok x) × (x.1 ≡ n)
 read_ok (Err e) n h = absurd (cc)
@@ -51,6 +54,29 @@ unsigned_nothing = refl
 pub signed_nothing : None ≡ signed_end []
 unfolding first_signed
 signed_nothing = refl
+
+-- ---- what a number's item spells
+
+nothing_behind : (bytes : List ℕ) (n : ℕ) → n ≡ length bytes → drop n bytes ≡ []
+nothing_behind bytes n e = ap (λ b. drop n b) (sym (append-nil bytes)) ∙ drop_at bytes [] n (sym e)
+
+pub unsigned_is : (x : List ℕ) → IsBytes x → IsItem unsigned_end x → (n : ℕ) × (n < 2 ^ 64) × (x ≡ uleb n)
+unsigned_is x f e =
+    let w = read_ok (first_unsigned x) (length x) e in
+    let v = first_unsigned-front x (w.0).0 (w.0).1 f w.1 in
+    ((w.0).0, v.0, v.2 ∙ ap (λ b. uleb (w.0).0 ++ b) (nothing_behind x (w.0).1 w.2) ∙ append-nil (uleb (w.0).0))
+
+pub signed_read : (x : List ℕ) → IsBytes x → IsItem signed_end x → (z : ℤ) × (len : ℕ) × (first_signed x ≡ Ok (z, len)) × (x ≡ leb z)
+signed_read x f e =
+    let w = read_ok (first_signed x) (length x) e in
+    let v = first_signed-front x (w.0).0 (w.0).1 f w.1 in
+    ((w.0).0, (w.0).1, w.1, v ∙ ap (λ b. leb (w.0).0 ++ b) (nothing_behind x (w.0).1 w.2) ∙ append-nil (leb (w.0).0))
+
+pub unsigned_again : (x : List ℕ) → IsBytes x → IsItem unsigned_end x → uleb (unsigned_value x) ≡ x
+unsigned_again x f e = let w = unsigned_is x f e in ap uleb (ap unsigned_value w.2 ∙ (uleb_is w.0).value_is) ∙ sym w.2
+
+pub signed_again : (x : List ℕ) → IsBytes x → IsItem signed_end x → leb (signed_value x) ≡ x
+signed_again x f e = let w = signed_read x f e in ap leb (ap signed_value w.3 ∙ (leb_is w.0).value_is) ∙ sym w.3
 
 -- ---- texts
 

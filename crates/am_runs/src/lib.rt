@@ -10,15 +10,14 @@ mod judge;
 mod laws;
 mod literal;
 mod number;
+mod numbers;
 mod pending;
 mod place;
 mod run;
-mod signed;
 mod skim;
 mod skipping;
 mod taking;
 mod text;
-mod unsigned;
 mod value;
 mod writer;
 
@@ -31,7 +30,6 @@ pub use judge::is_canonical;
 pub use laws::{
     canonical_spells, one_signed_list, one_spelled_list, one_text_list, one_unsigned_list,
 };
-pub use signed::SignedCursor;
+pub use numbers::{NumberCursor, SignedCursor, UnsignedCursor};
 pub use text::TextCursor;
-pub use unsigned::UnsignedCursor;
 pub use writer::{RunWriter, one_canonical_spelling};

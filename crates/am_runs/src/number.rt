@@ -20,6 +20,9 @@ pub trait Number: Item {
     /// The number that an item spells.
     ghost value_of: { List ℕ → Self.Value };
 
+    /// The item that spells a number.
+    ghost spelling: { Self.Value → List ℕ };
+
     /// The number that an item spells.
     fn number(item: &[u8]) -> Self::Value
         requires item { IsItem Self.end_of item.now }
@@ -39,17 +42,24 @@ pub trait Number: Item {
         ensures value { result ≡ Self.value_of (take 1 bytes.now) };
 
     ghost nothing: { None ≡ Self.end_of [] };
+
+    /// An item is the spelling of what it spells.
+    ghost respelled: { (item : List ℕ) → ((i : ℕ) → get_or item i 0 < 256) → IsItem Self.end_of item → spelling (value_of item) ≡ item };
 }
 
 impl Number for UnsignedItem {
-    ghost use Rattle.am_leb.specs.Leb.{unsigned_value};
-    ghost use Rattle.am_runs.specs.ItemLaws.{unsigned_nothing};
+    ghost use Rattle.am_leb.specs.Leb.{uleb, unsigned_value};
+    ghost use Rattle.am_runs.specs.ItemLaws.{unsigned_nothing, unsigned_again};
 
     type Value = u64;
 
     ghost value_of = { unsigned_value };
 
+    ghost spelling = { uleb };
+
     ghost nothing = { unsigned_nothing };
+
+    ghost respelled = { unsigned_again };
 
     #[inline(always)]
     fn number(item: &[u8]) -> u64 {
@@ -71,14 +81,18 @@ impl Number for UnsignedItem {
 }
 
 impl Number for SignedItem {
-    ghost use Rattle.am_leb.specs.Leb.{signed_value};
-    ghost use Rattle.am_runs.specs.ItemLaws.{signed_nothing};
+    ghost use Rattle.am_leb.specs.Leb.{leb, signed_value};
+    ghost use Rattle.am_runs.specs.ItemLaws.{signed_nothing, signed_again};
 
     type Value = i64;
 
     ghost value_of = { signed_value };
 
+    ghost spelling = { leb };
+
     ghost nothing = { signed_nothing };
+
+    ghost respelled = { signed_again };
 
     #[inline(always)]
     fn number(item: &[u8]) -> i64 {

@@ -4,7 +4,7 @@ ghost use Rattle.am_types.specs.Values.{Good};
 ghost use Rattle.am_types.specs.Views.{value_of};
 
 use crate::number::{signed_in, unsigned_in};
-use am_types::{ValueRef, slice_known};
+use am_types::{MOST_BYTES, ValueRef, kinds, slice_known};
 use std::str::from_utf8;
 
 fn is_text(raw: &[u8]) -> bool
@@ -18,16 +18,16 @@ pub fn is_good(kind: u8, raw: &[u8]) -> bool
     ensures { IsTrue result ↔ Good (record { kind = kind; raw = raw.now }) }
 {
     slice_known(raw);
-    if raw.len() >= 1 << 60 {
+    if raw.len() > MOST_BYTES {
         return false;
     }
     match kind {
-        0 | 1 | 2 => raw.is_empty(),
-        3 => unsigned_in(raw).is_some(),
-        4 | 8 | 9 => signed_in(raw).is_some(),
-        5 => raw.len() == 8,
-        6 => is_text(raw),
-        _ => kind <= 15,
+        kinds::NULL | kinds::FALSE | kinds::TRUE => raw.is_empty(),
+        kinds::UNSIGNED => unsigned_in(raw).is_some(),
+        kinds::SIGNED | kinds::COUNTER | kinds::TIMESTAMP => signed_in(raw).is_some(),
+        kinds::FLOAT => raw.len() == 8,
+        kinds::TEXT => is_text(raw),
+        _ => kind <= kinds::GREATEST,
     }
 }
 

@@ -3,7 +3,7 @@ ghost use Rattle.std.specs.Prelude.{◌≡◌, IfSome, IfNone};
 ghost use Rattle.am_types.specs.Values.{Good};
 ghost use Rattle.am_types.specs.Views.{value_of};
 
-use am_types::{ValueRef, slice_known};
+use am_types::{MOST_BYTES, ValueRef, kinds, slice_known};
 use std::str::from_utf8;
 
 /// The text of a good value of kind 6, and None for all other values.
@@ -13,10 +13,10 @@ pub fn text_of<'a>(value: ValueRef<'a>) -> Option<&'a str>
     ensures none { IfNone result (value.entry.kind ≡ 6 → Good (value_of value.entry) → ⊥) }
 {
     slice_known(value.raw);
-    if value.kind != 6 {
+    if value.kind != kinds::TEXT {
         return None;
     }
-    if value.raw.len() >= 1 << 60 {
+    if value.raw.len() > MOST_BYTES {
         return None;
     }
     match from_utf8(value.raw) {

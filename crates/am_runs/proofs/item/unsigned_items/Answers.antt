@@ -1,6 +1,7 @@
 use Rattle.std.proofs.Common.{arith, sym, subst}
 use Rattle.am_runs.specs.Items.{IsItem, unsigned_end}
-use Rattle.am_runs.proofs.ItemIs.{unsigned_is, unsigned_item}
+use Rattle.am_runs.specs.ItemLaws.{unsigned_is}
+use Rattle.am_runs.proofs.ItemIs.{unsigned_item}
 use Rattle.am_runs.proofs.item.unsigned_items.Goals as goal
 
 pub returns : goal.returns

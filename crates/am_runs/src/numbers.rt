@@ -1,59 +1,64 @@
-//! A cursor over the signed numbers of a column.
-ghost use Rattle.std.specs.Prelude.{◌≡◌, ◌<◌, ◌≤◌, ◌++◌, ◌∷◌, [], ℕ, ℤ, List, Option, Some, length, map, take, drop, IfOk, IfSome, IfNone, OnErr, replicate};
+//! A cursor over the numbers of a column.
+ghost use Rattle.std.specs.Prelude.{◌≡◌, ◌<◌, ◌≤◌, ◌++◌, ◌∷◌, [], ℕ, List, Option, Some, length, map, take, drop, IfOk, IfSome, IfNone, OnErr, replicate};
 ghost use Rattle.std.specs.List.{AllByRecursion, flat_map};
 ghost use Rattle.std.specs.Option.{option_map};
 ghost use Rattle.am_leb.specs.Leb.{signed_value};
 ghost use Rattle.am_runs.specs.Items.{IsItem, signed_end};
-ghost use Rattle.am_runs.specs.Typed.{AllItems, JoinsSigned, signed_numbers};
+ghost use Rattle.am_runs.specs.Runs.{JoinsRuns};
+ghost use Rattle.am_runs.specs.Typed.{AllItems};
 
 use crate::counters::{Counters, counters_of, runs_from};
 use crate::cursor::RunCursor;
 use crate::fault::BadRun;
-use crate::item::SignedItem;
-use crate::number::{literal_number, number_of, opened};
+use crate::item::{SignedItem, UnsignedItem};
+use crate::number::{Number, literal_number, number_of, opened};
 use std::marker::Model;
 
-/// The signed numbers of a column, one after another.
+/// The numbers of a column, one after another.
 #[derive(Drop)]
-pub struct SignedCursor<'a> {
+pub struct NumberCursor<'a, K: Number> {
     at: Counters<'a>,
     // of this there are copies
-    value: Option<i64>,
+    value: Option<K::Value>,
 }
 
-impl<'a> Model for SignedCursor<'a> {
-    ghost use Rattle.std.specs.Prelude.{ℤ, List, Option};
+/// The unsigned numbers of a column, one after another.
+pub type UnsignedCursor<'a> = NumberCursor<'a, UnsignedItem>;
 
-    ghost Value = { List (Option ℤ) };
+/// The signed numbers of a column, one after another.
+pub type SignedCursor<'a> = NumberCursor<'a, SignedItem>;
 
-    ghost use Rattle.am_leb.specs.Leb.{signed_value};
-    ghost use Rattle.am_runs.specs.Items.{signed_end};
+impl<'a, K: Number> Model for NumberCursor<'a, K> {
+    ghost use Rattle.std.specs.Prelude.{ℕ, ℤ, List, Option};
+
+    ghost Value = { List (Option K.Value) };
+
     ghost use Rattle.am_runs.specs.Counters.{IsCounted, counted, entries_from};
 
-    ghost view = { λ a. counted signed_value a.at.copies a.value (entries_from signed_end a.at.literal a.at.left a.at.rest.now) };
+    ghost view = { λ a. counted K.value_of a.at.copies a.value (entries_from K.end_of a.at.literal a.at.left a.at.rest.now) };
 
-    ghost invariant = { λ a. IsCounted signed_end a.at.copies a.at.literal a.at.left a.at.rest.now };
+    ghost invariant = { λ a. IsCounted K.end_of a.at.copies a.at.literal a.at.left a.at.rest.now };
 }
 
 // A cursor over what the entries spell.
-fn numbers_of<'a>(runs: &RunCursor<'a, SignedItem>) -> SignedCursor<'a>
-    requires { AllItems signed_end runs.now }
-    ensures { result ≡ signed_numbers runs.now }
+fn numbers_of<'a, K: Number>(runs: &RunCursor<'a, K>) -> NumberCursor<'a, K>
+    requires { AllItems K.end_of runs.now }
+    ensures { result ≡ map (option_map K.value_of) runs.now }
 {
     let (at, entry) = counters_of(runs);
     let value = if at.copies > 0 {
-        number_of::<SignedItem>(entry)
+        number_of::<K>(entry)
     } else {
         None
     };
-    SignedCursor { at, value }
+    NumberCursor { at, value }
 }
 
-impl<'a> SignedCursor<'a> {
+impl<'a, K: Number> NumberCursor<'a, K> {
     /// A cursor before the first of the numbers that the bytes join, nulls among them. `most` bounds how many there may be; `BadRun` where the bytes join no such list, or a longer one.
     pub fn over(bytes: &'a [u8], most: u64) -> Result<Self, BadRun>
-        ensures ok { IfOk result (λ values. JoinsSigned bytes.now values × (length values ≤ most)) }
-        ensures err { OnErr result ((values : List (Option ℤ)) → JoinsSigned bytes.now values → most < length values) }
+        ensures ok { IfOk result (λ values. JoinsRuns K.end_of bytes.now (map (option_map K.spelling) values) × (length values ≤ most)) }
+        ensures err { OnErr result ((values : List (Option K.Value)) → JoinsRuns K.end_of bytes.now (map (option_map K.spelling) values) → most < length values) }
     {
         match RunCursor::over(bytes, most) {
             Err(fault) => Err(fault),
@@ -63,8 +68,8 @@ impl<'a> SignedCursor<'a> {
 
     /// The cursor before the first of so many numbers, which the bytes are known to join. Nothing is read.
     pub fn spelled(bytes: &'a [u8], count: u64) -> Self
-        requires { (values : List (Option ℤ)) × JoinsSigned bytes.now values × (length values ≡ count) }
-        ensures spelled { JoinsSigned bytes.now result }
+        requires { (values : List (Option K.Value)) × JoinsRuns K.end_of bytes.now (map (option_map K.spelling) values) × (length values ≡ count) }
+        ensures spelled { JoinsRuns K.end_of bytes.now (map (option_map K.spelling) result) }
         ensures count { length result ≡ count }
     {
         let runs = RunCursor::spelled(bytes, count);
@@ -82,7 +87,7 @@ impl<'a> SignedCursor<'a> {
     pub fn again(&self) -> Self
         ensures { result ≡ self.now }
     {
-        SignedCursor {
+        NumberCursor {
             at: self.at,
             value: self.value,
         }
@@ -103,22 +108,22 @@ impl<'a> SignedCursor<'a> {
     }
 
     /// The next value, and how often it comes next at least. It goes on by none.
-    pub fn like(&self) -> Option<(Option<i64>, u64)>
+    pub fn like(&self) -> Option<(Option<K::Value>, u64)>
         ensures end { IfNone result (self.now ≡ []) }
         ensures like { IfSome result (λ r. (1 ≤ r.1) × (r.1 ≤ length self.now) × (take r.1 self.now ≡ replicate r.1 r.0)) }
     {
         if self.at.copies > 0 {
             return Some((self.value, self.at.copies));
         }
-        match runs_from::<SignedItem>(&self.at).like() {
+        match runs_from::<K>(&self.at).like() {
             None => None,
-            Some((entry, k)) => Some((number_of::<SignedItem>(entry), k)),
+            Some((entry, k)) => Some((number_of::<K>(entry), k)),
         }
     }
 
     /// The next value, and how many like it come at once, at most so many. A run costs two steps at most.
     #[inline(always)]
-    pub fn next_alike_within(&mut self, most: u64) -> Option<(Option<i64>, u64)>
+    pub fn next_alike_within(&mut self, most: u64) -> Option<(Option<K::Value>, u64)>
         requires some { 0 < most }
         ensures end { IfNone result ((self.old ≡ []) × (self.new ≡ [])) }
         ensures next { IfSome result (λ r. (1 ≤ r.1) × (r.1 ≤ most) × (self.old ≡ replicate r.1 r.0 ++ self.new)) }
@@ -134,6 +139,30 @@ impl<'a> SignedCursor<'a> {
         }
     }
 
+    /// The next number, which may be null; nothing at the end.
+    #[inline(always)]
+    pub fn next(&mut self) -> Option<Option<K::Value>>
+        ensures end { IfNone result ((self.old ≡ []) × (self.new ≡ [])) }
+        ensures next { IfSome result (λ value. self.old ≡ value ∷ self.new) }
+    {
+        if self.at.copies > 0 {
+            self.at.copies -= 1;
+            return Some(self.value);
+        }
+        if self.at.literal > 0 {
+            return match literal_number::<K>(&mut self.at) {
+                None => None,
+                Some(n) => Some(Some(n)),
+            };
+        }
+        if self.at.left == 0 {
+            return None;
+        }
+        opened::<K>(&mut self.at, &mut self.value)
+    }
+}
+
+impl<'a> NumberCursor<'a, SignedItem> {
     // How many items of a literal run come next, and the bytes that they begin. While there are copies, none does.
     pub(crate) fn literal(&self) -> (u64, &'a [u8])
         ensures { (items : List (List ℕ)) (rest : List ℕ) → AllByRecursion (IsItem signed_end) items → length items ≤ result.0 → result.1.now ≡ flat_map (λ item. item) items ++ rest
@@ -143,27 +172,5 @@ impl<'a> SignedCursor<'a> {
             return (0, self.at.rest);
         }
         (self.at.literal, self.at.rest)
-    }
-
-    /// The next number, which may be null; nothing at the end.
-    #[inline(always)]
-    pub fn next(&mut self) -> Option<Option<i64>>
-        ensures end { IfNone result ((self.old ≡ []) × (self.new ≡ [])) }
-        ensures next { IfSome result (λ value. self.old ≡ value ∷ self.new) }
-    {
-        if self.at.copies > 0 {
-            self.at.copies -= 1;
-            return Some(self.value);
-        }
-        if self.at.literal > 0 {
-            return match literal_number::<SignedItem>(&mut self.at) {
-                None => None,
-                Some(n) => Some(Some(n)),
-            };
-        }
-        if self.at.left == 0 {
-            return None;
-        }
-        opened::<SignedItem>(&mut self.at, &mut self.value)
     }
 }
