@@ -6,7 +6,7 @@ use Rattle.std.proofs.lemmas.List.{length-map, length_push, map-append, map-set,
 use Rattle.std.proofs.lemmas.Option.{slice_get_within, slice_get-get_or, get_or_from_slice_get}
 use Rattle.am_types.specs.declared.OpId.{OpId}
 use Rattle.am_chain.specs.declared.node.Node.{Node}
-use Rattle.am_chain.specs.Chains.{Element, spelled, Leads, ids_of, IsFresh, IdsDiffer, has_node, IsChain, IsLinked, IsLast, IsGap, node_ids}
+use Rattle.am_chain.specs.Chains.{Element, spelled, Leads, ids_of, IsFresh, IdsDiffer, has_node, IsChain, IsLinked, IsLast, IsGap, IsInserted, node_ids}
 use Rattle.am_chain.proofs.Links.{spelled-Leads, IsLinked-from, Leads-back, IdsDiffer-front}
 
 -- ---- reads
@@ -199,11 +199,6 @@ behind_leads nodes first p at e target linked g node there =
         )
 
 -- ---- what an insertion gives, in the form of the code's steps
-
-pub record IsInserted (nodes : List Node) (e : OpId) (target : List OpId) (more : List Node) (start : Option ℕ) : Type 0 where
-  pub linked : IsLinked more start
-  pub ids : node_ids more ≡ node_ids nodes ++ e ∷ []
-  pub walk : ids_of (spelled more start) ≡ target
 
 pub inserted_front : (nodes : List Node) (first : Option ℕ) (linked : IsLinked nodes first) (before at : Option ℕ) (e : OpId) (target : List OpId) (g : IsGap nodes (spelled nodes first) before at (λ fs. e ∷ fs) target) → (Contains (node_ids nodes) e → ⊥) → length nodes < 2 ^ 22 → before ≡ None → (more : List Node) → more ≡ nodes ++ record { id = e; next = at } ∷ [] → (n : ℕ) → n ≡ length nodes → IsInserted nodes e target more (Some n)
 inserted_front nodes first linked before at e target g fresh room is more pushed n count =

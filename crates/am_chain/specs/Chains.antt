@@ -4,6 +4,7 @@
 --     IsChain nodes first es      they lead from the first through all nodes, whose ids differ
 --     IsGap nodes es before at put target      between `before` and `at` there is a gap: with what stands behind it
 --                             changed by put, the ids of es are the target
+--     IsInserted nodes e target more start     the nodes are linked with one more, for e, and their ids are the target
 use Rattle.std.specs.Prelude.{ℕ, zero, suc, ◌≡◌, ◌≢◌, ◌==◌, ◌<◌, ◌≤◌, ◌^◌, ◌++◌, List, [], ◌∷◌, length, map, Option, Some, None, Bool, true, slice_get, option_map, unwrap_or, ⊤}
 use Rattle.std.specs.List.{AllByRecursion, list_any}
 use Rattle.am_types.specs.declared.OpId.{OpId}
@@ -71,3 +72,9 @@ pub record IsGap (nodes : List Node) (es : List Element) (before at : Option ℕ
   pub leads : Leads nodes at rest
   pub last : IsLast before passed
   pub there : target ≡ ids_of passed ++ put (ids_of rest)
+
+-- The nodes have one more, for e at their end, and the ids of the chain are the target.
+pub record IsInserted (nodes : List Node) (e : OpId) (target : List OpId) (more : List Node) (start : Option ℕ) : Type 0 where
+  pub linked : IsLinked more start
+  pub ids : node_ids more ≡ node_ids nodes ++ e ∷ []
+  pub walk : ids_of (spelled more start) ≡ target

@@ -7,7 +7,7 @@ ghost use Rattle.am_types.specs.Same.{same_id};
 ghost use Rattle.am_chain.specs.Passing.{put_passing};
 ghost use Rattle.am_chain.specs.Sequences.{IsNodeBelow, IsStanding, key_of_node};
 
-use crate::node::{Node, find_gap, link_behind};
+use crate::node::{Gap, Node, find_gap, link_behind, put_in_gap};
 use crate::walk::Walk;
 use am_types::OpId;
 use std::alloc::{AllocError, Global};
@@ -57,14 +57,8 @@ impl Chain {
         ensures walk { OnOk result (self.new.walk ≡ put_passing (key_of_node self.old.nodes after) id self.old.walk) }
         ensures err { OnErr result (self.new ≡ self.old) }
     {
-        let node = self.nodes.len() as u32;
         let gap = find_gap(self.nodes.as_slice(), self.first, after, id.lend());
-        self.nodes.push(Node { id, next: gap.at })?;
-        match gap.before {
-            Some(before) => self.nodes[before as usize].next = Some(node),
-            None => self.first = Some(node),
-        }
-        Ok(node)
+        put_in_gap(&mut self.nodes, &mut self.first, gap, id)
     }
 
     /// Makes a node for `id` directly behind the node `before`, or first, and gives its number. It takes constant time.
@@ -78,14 +72,9 @@ impl Chain {
         ensures walk { OnOk result (self.new.walk ≡ put_at (key_of_node self.old.nodes before) id self.old.walk) }
         ensures err { OnErr result (self.new ≡ self.old) }
     {
-        let node = self.nodes.len() as u32;
         let at = link_behind(self.nodes.as_slice(), self.first, before);
-        self.nodes.push(Node { id, next: at })?;
-        match before {
-            Some(before) => self.nodes[before as usize].next = Some(node),
-            None => self.first = Some(node),
-        }
-        Ok(node)
+        let gap = Gap { before, at };
+        put_in_gap(&mut self.nodes, &mut self.first, gap, id)
     }
 
     /// The ids in the order of the list.
