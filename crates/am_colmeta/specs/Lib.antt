@@ -3,3 +3,4 @@ pub mod Actors
 pub mod Judgement
 pub mod Reading
 pub mod Writing
+pub mod Even

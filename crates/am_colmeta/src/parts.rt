@@ -5,6 +5,20 @@ ghost use Rattle.am_colmeta.specs.Reading.{first_number, first_pair, first_prefi
 
 use am_leb::read_u;
 
+// The bytes behind so many parts, each of which the named function reads.
+macro_rules! behind {
+    ($part:ident, $bytes:ident, $count:ident) => {{
+        let mut rest = $bytes;
+        let mut left = $count;
+        while left > 0 {
+            let (_, more) = $part(rest)?;
+            rest = more;
+            left -= 1;
+        }
+        Some(rest)
+    }};
+}
+
 // The number that stands first, and the bytes behind it.
 pub fn number_at<'a>(bytes: &'a [u8]) -> Option<(u64, &'a [u8])>
     ensures read { option_map {U = ℕ × List ℕ} (λ found. (found.0, found.1.now)) result ≡ first_number bytes.now }
@@ -45,26 +59,12 @@ pub fn prefixed_at<'a>(bytes: &'a [u8]) -> Option<(&'a [u8], &'a [u8])>
 pub fn behind_pairs<'a>(bytes: &'a [u8], count: u64) -> Option<&'a [u8]>
     ensures { option_map (λ rest. rest.now) result ≡ behind first_pair count bytes.now }
 {
-    let mut rest = bytes;
-    let mut left = count;
-    while left > 0 {
-        let (_, more) = pair_at(rest)?;
-        rest = more;
-        left -= 1;
-    }
-    Some(rest)
+    behind!(pair_at, bytes, count)
 }
 
 // The bytes behind so many that each stand behind their length.
 pub fn behind_prefixed<'a>(bytes: &'a [u8], count: u64) -> Option<&'a [u8]>
     ensures { option_map (λ rest. rest.now) result ≡ behind first_prefixed count bytes.now }
 {
-    let mut rest = bytes;
-    let mut left = count;
-    while left > 0 {
-        let (_, more) = prefixed_at(rest)?;
-        rest = more;
-        left -= 1;
-    }
-    Some(rest)
+    behind!(prefixed_at, bytes, count)
 }

@@ -4,4 +4,4 @@ use Rattle.am_colmeta.proofs.Counted.{length-parts}
 use Rattle.am_colmeta.proofs.actors.ActorList.count.Goals as goal
 
 pub returns : goal.returns
-returns c = record { number = sym (length-parts first_prefixed _ _ c.self.invariant) ∙ ap length c.self.view_is }
+returns c = record { number = sym (length-parts first_prefixed _ _ c.self.invariant.0) ∙ ap length c.self.view_is }
