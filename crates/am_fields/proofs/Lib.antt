@@ -14,6 +14,7 @@ pub mod MetaLaws
 pub mod Written
 pub mod Codes
 pub mod PlaceLaws
+pub mod ListedLaws
 pub mod WriteLaws
 pub mod AboveLaws
 pub mod CanonicalLaws

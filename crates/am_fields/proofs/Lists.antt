@@ -1,5 +1,6 @@
 -- Lists that are the same field by field, or part by part.
-use Rattle.std.proofs.Common.{◌≡◌, ℕ, zero, suc, add-one, ◌+◌, List, [], ◌∷◌, ◌++◌, length, map, drop, refl, sym, ap, ◌∙◌, arith}
+use Rattle.std.proofs.Common.{◌≡◌, ℕ, zero, suc, add-one, ◌+◌, List, [], ◌∷◌, ◌++◌, length, map, drop, None, refl, sym, ap, ◌∙◌, arith}
+use Rattle.std.specs.Prelude.{slice_get}
 use Rattle.std.specs.List.{flat_map, AllByRecursion}
 
 pub same_map_pair : {X A B : Type 0} (f : X → A) (g : X → B) (xs ys : List X) → map f xs ≡ map f ys → map g xs ≡ map g ys → map {B = A × B} (λ x. (f x, g x)) xs ≡ map (λ x. (f x, g x)) ys
@@ -59,3 +60,9 @@ drop_next i xs ys x e = sym (ap (λ k. drop k xs) (add-one i) ∙ further i xs y
     further zero (z ∷ xs) ys x e = cc
     further (suc i) [] ys x e = absurd (cc)
     further (suc i) (z ∷ xs) ys x e = further i xs ys x e
+
+-- what stands behind so many, by its first
+pub first_behind : {A : Type 0} (xs : List A) (n : ℕ) → drop n xs ≡ [] → slice_get xs n ≡ None
+first_behind [] n e = refl
+first_behind (x ∷ xs) zero e = absurd (cc)
+first_behind (x ∷ xs) (suc n) e = first_behind xs n e

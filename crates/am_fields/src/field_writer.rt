@@ -1,12 +1,13 @@
 //! Writing the fields that operations and rows have in common.
 
 use crate::field_columns::FieldColumns;
+use crate::listed::ListedActors;
 use crate::number_writer::NumberWriter;
 use crate::places::{key_counter, key_name, key_place, object_counter, object_place};
 use crate::text_writer::TextWriter;
 use am_delta::DeltaWriter;
 use am_flags::FlagWriter;
-use am_types::{ActorId, Bytes, KeyRef, ObjRef, ValueRef};
+use am_types::{Bytes, KeyRef, ObjRef, ValueRef};
 use am_values::ValueWriter;
 use std::alloc::{AllocError, Global};
 
@@ -81,7 +82,7 @@ impl FieldWriter {
     }
 
     /// Appends the fields of one more. The places of actors are those among these actors.
-    pub fn push(&mut self, actors: &[ActorId], fields: Fields<'_>) -> Result<(), AllocError>
+    pub fn push(&mut self, actors: &ListedActors<'_>, fields: Fields<'_>) -> Result<(), AllocError>
         requires room { FieldsHaveRoom self.old }
         requires key { IsKey (key_of fields.key) }
         requires value { Good (value_of fields.value) }
@@ -103,7 +104,7 @@ impl FieldWriter {
     /// among these actors.
     pub fn take(
         &mut self,
-        actors: &[ActorId],
+        actors: &ListedActors<'_>,
         from: &mut FieldColumns<'_>,
         n: u64,
     ) -> Result<(), AllocError>

@@ -6,10 +6,10 @@ ghost use Rattle.am_fields.specs.Columns.{place_of};
 ghost use Rattle.am_fields.specs.Layout.{id_actor, id_counter};
 
 use crate::ids::IdColumns;
+use crate::listed::ListedActors;
 use crate::number_writer::NumberWriter;
-use crate::places::place_in;
 use am_delta::DeltaWriter;
-use am_types::{ActorId, Bytes, IdRef, OpId};
+use am_types::{Bytes, IdRef, OpId};
 use std::alloc::{AllocError, Global};
 
 /// The writers of the two columns.
@@ -23,7 +23,7 @@ pub struct IdWriter {
 fn push_id(
     places: &mut NumberWriter,
     counters: &mut DeltaWriter,
-    actors: &[ActorId],
+    actors: &ListedActors<'_>,
     id: IdRef<'_>,
 ) -> Result<(), AllocError>
     requires places { IfSome places.old (λ xs. length xs < 2 ^ 32) }
@@ -32,7 +32,7 @@ fn push_id(
     ensures places { OnOk result (IfSome places.old (λ xs. places.new ≡ Some (xs ++ option_map (place_of actors.now) (id_actor (id_of id.entry)) ∷ []))) }
     ensures counters { OnOk result (IfSome counters.old (λ xs. counters.new ≡ Some (xs ++ id_counter (id_of id.entry) ∷ []))) }
 {
-    places.push(Some(place_in(actors, id.actor)))?;
+    places.push(Some(actors.place(id.actor)))?;
     counters.push(Some(id.counter as i64))
 }
 
@@ -40,7 +40,7 @@ fn push_id(
 fn push_ids(
     places: &mut NumberWriter,
     counters: &mut DeltaWriter,
-    actors: &[ActorId],
+    actors: &ListedActors<'_>,
     ids: &[OpId],
 ) -> Result<(), AllocError>
     requires places { IfSome places.old (λ xs. length xs + length ids.now ≤ 2 ^ 32) }
@@ -50,7 +50,7 @@ fn push_ids(
     ensures counters { OnOk result (IfSome counters.old (λ xs. counters.new ≡ Some (xs ++ map id_counter ids.now))) }
 {
     for id in ids {
-        places.push(Some(place_in(actors, id.actor.as_slice())))?;
+        places.push(Some(actors.place(id.actor.as_slice())))?;
         counters.push(Some(id.counter as i64))?;
     }
     Ok(())
@@ -75,7 +75,7 @@ impl IdWriter {
     }
 
     /// Appends an id. The place of its actor is that among these actors.
-    pub fn push(&mut self, actors: &[ActorId], id: IdRef<'_>) -> Result<(), AllocError>
+    pub fn push(&mut self, actors: &ListedActors<'_>, id: IdRef<'_>) -> Result<(), AllocError>
         requires places { IsOpen self.old.places }
         requires counters { IsOpen self.old.counters }
         requires id { IsId (id_of id) }
@@ -85,7 +85,7 @@ impl IdWriter {
     }
 
     /// Appends ids.
-    pub fn push_all(&mut self, actors: &[ActorId], ids: &[OpId]) -> Result<(), AllocError>
+    pub fn push_all(&mut self, actors: &ListedActors<'_>, ids: &[OpId]) -> Result<(), AllocError>
         requires places { IfSome self.old.places (λ xs. length xs + length ids.now ≤ 2 ^ 32) }
         requires counters { IfSome self.old.counters (λ xs. length xs + length ids.now ≤ 2 ^ 32) }
         requires ids { All IsId ids.now }
@@ -98,7 +98,7 @@ impl IdWriter {
     /// actors.
     pub fn take(
         &mut self,
-        actors: &[ActorId],
+        actors: &ListedActors<'_>,
         from: &mut IdColumns<'_>,
         n: u64,
     ) -> Result<(), AllocError>

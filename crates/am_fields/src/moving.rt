@@ -3,14 +3,13 @@ ghost use Rattle.std.specs.Prelude.{◌≡◌, ◌+◌, ◌≤◌, ◌^◌, ◌+
 ghost use Rattle.am_fields.specs.Moving.{moved};
 
 use crate::actors::Actors;
+use crate::listed::ListedActors;
 use crate::number_writer::NumberWriter;
 use crate::numbers::NumberColumn;
-use crate::places::place_in;
-use am_types::ActorId;
 use std::alloc::AllocError;
 
 // Where the actor at a place of the known ones stands among the actors.
-fn moved_place(known: &mut Actors<'_>, actors: &[ActorId], place: Option<u64>) -> Option<u64>
+fn moved_place(known: &mut Actors<'_>, actors: &ListedActors<'_>, place: Option<u64>) -> Option<u64>
     ensures same { known.new ≡ known.old }
     ensures place { result ≡ moved known.old actors.now place }
 {
@@ -18,7 +17,7 @@ fn moved_place(known: &mut Actors<'_>, actors: &[ActorId], place: Option<u64>) -
         None => None,
         Some(place) => match known.get(place) {
             None => None,
-            Some(actor) => Some(place_in(actors, actor)),
+            Some(actor) => Some(actors.place(actor)),
         },
     }
 }
@@ -29,7 +28,7 @@ pub fn move_places(
     places: &mut NumberWriter,
     from: &mut NumberColumn<'_>,
     known: &mut Actors<'_>,
-    actors: &[ActorId],
+    actors: &ListedActors<'_>,
     n: u64,
 ) -> Result<(), AllocError>
     requires room { IfSome places.old (λ items. length items + n ≤ 2 ^ 32) }

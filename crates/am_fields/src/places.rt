@@ -1,34 +1,21 @@
 //! The cells of a lent field, as columns hold them.
-ghost use Rattle.std.specs.Prelude.{◌≡◌, ◌<◌, ◌≤◌, IfSome, option_map};
+ghost use Rattle.std.specs.Prelude.{◌≡◌, IfSome, option_map};
 ghost use Rattle.am_types.specs.Fine.{IsKey};
 ghost use Rattle.am_types.specs.Views.{object_of, key_of};
 ghost use Rattle.am_delta.specs.Deltas.{IsMiddling};
 ghost use Rattle.am_fields.specs.Columns.{place_of};
 ghost use Rattle.am_fields.specs.Layout.{object_actor, object_counter as counter_of_object, key_actor, key_counter as counter_of_key, key_string};
 
-use am_types::{ActorId, KeyRef, ObjRef, same_actor};
-
-/// Where an actor stands in a list of actors, counted from 0, or the length of the list.
-pub fn place_in(actors: &[ActorId], actor: &[u8]) -> u64
-    ensures { result ≡ place_of actors.now actor.now }
-{
-    let mut i = 0;
-    while i < actors.len() {
-        if same_actor(actor, actors[i].as_slice()) {
-            return i as u64;
-        }
-        i += 1;
-    }
-    i as u64
-}
+use crate::listed::ListedActors;
+use am_types::{KeyRef, ObjRef};
 
 // The place of the actor of an object.
-pub fn object_place(actors: &[ActorId], object: ObjRef<'_>) -> Option<u64>
+pub fn object_place(actors: &ListedActors<'_>, object: ObjRef<'_>) -> Option<u64>
     ensures { result ≡ option_map (place_of actors.now) (object_actor (object_of object.entry)) }
 {
     match object {
         ObjRef::Root => None,
-        ObjRef::Made(id) => Some(place_in(actors, id.actor)),
+        ObjRef::Made(id) => Some(actors.place(id.actor)),
     }
 }
 
@@ -43,13 +30,13 @@ pub fn object_counter(object: ObjRef<'_>) -> Option<u64>
 }
 
 // The place of the actor of a key.
-pub fn key_place(actors: &[ActorId], key: KeyRef<'_>) -> Option<u64>
+pub fn key_place(actors: &ListedActors<'_>, key: KeyRef<'_>) -> Option<u64>
     ensures { result ≡ option_map (place_of actors.now) (key_actor (key_of key.entry)) }
 {
     match key {
         KeyRef::Name(_) => None,
         KeyRef::Head => None,
-        KeyRef::Elem(id) => Some(place_in(actors, id.actor)),
+        KeyRef::Elem(id) => Some(actors.place(id.actor)),
     }
 }
 

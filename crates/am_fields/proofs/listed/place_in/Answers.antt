@@ -3,7 +3,7 @@ use Rattle.std.specs.Cmp.Lexicographic.{texts_ties}
 use Rattle.am_types.specs.Same.{same_bytes}
 use Rattle.am_fields.specs.Columns.{place_of}
 use Rattle.am_fields.proofs.PlaceLaws.{place-here, place-next-at}
-use Rattle.am_fields.proofs.places.place_in.Goals as goal
+use Rattle.am_fields.proofs.listed.place_in.Goals as goal
 
 pub returns-then-same_actor : goal.returns-then-same_actor
 returns-then-same_actor c =
