@@ -11,7 +11,8 @@ ghost use Rattle.am_opcols.specs.Chains.{Chain};
 
 use am_opcols::{OpRef, PredCursor};
 use am_types::{
-    GREATEST_COUNTER, IdRef, KeyRef, LONGEST_ACTOR, ObjRef, compare_ids, slice_known, str_known,
+    GREATEST_COUNTER, IdRef, KeyRef, LONGEST_ACTOR, ObjRef, actions, compare_ids, kinds,
+    slice_known, str_known,
 };
 use am_values::good_value;
 use std::cmp::Ordering;
@@ -135,7 +136,10 @@ fn mark_known(mark: Option<&str>)
 fn is_fine_insertion(op: &OpRef<'_>) -> bool
     ensures { IsTrue result ↔ FineInsertion (op_of op.now) }
 {
-    is_list_place(op.key) && op.action != 3 && op.action != 5 && has_none(&op.preds)
+    is_list_place(op.key)
+        && op.action != actions::DELETE
+        && op.action != actions::INCREMENT
+        && has_none(&op.preds)
 }
 
 fn has_some(ids: &PredCursor<'_>) -> bool
@@ -148,7 +152,11 @@ fn has_some(ids: &PredCursor<'_>) -> bool
 fn is_fine_deletion(op: &OpRef<'_>) -> bool
     ensures { IsTrue result ↔ FineDeletion (op_of op.now) }
 {
-    has_some(&op.preds) && op.value.kind == 0 && !op.insert && !op.expand && op.mark.is_none()
+    has_some(&op.preds)
+        && op.value.kind == kinds::NULL
+        && !op.insert
+        && !op.expand
+        && op.mark.is_none()
 }
 
 // Whether an operation is fine.
@@ -156,7 +164,7 @@ pub fn is_fine_op(op: &OpRef<'_>) -> bool
     ensures { IsTrue result ↔ FineOp (op_of op.now) }
 {
     mark_known(op.mark);
-    if op.action > 7 || !is_object(op.obj) || !is_key(op.key) {
+    if op.action > actions::MARK || !is_object(op.obj) || !is_key(op.key) {
         return false;
     }
     if !good_value(op.value) {
@@ -168,8 +176,8 @@ pub fn is_fine_op(op: &OpRef<'_>) -> bool
     if op.insert && !is_fine_insertion(op) {
         return false;
     }
-    if !op.insert && (is_head(op.key) || op.action == 7) {
+    if !op.insert && (is_head(op.key) || op.action == actions::MARK) {
         return false;
     }
-    op.action != 3 || is_fine_deletion(op)
+    op.action != actions::DELETE || is_fine_deletion(op)
 }

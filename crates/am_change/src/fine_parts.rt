@@ -11,7 +11,10 @@ ghost use Rattle.am_change.specs.Building.{hashes_in, front_of, change_with, IsF
 use crate::fine_op::is_fine_op;
 use crate::front::FrontRef;
 use am_opcols::OpCursor;
-use am_types::{GREATEST_COUNTER, compare_bytes, slice_known, str_known};
+use am_types::{
+    GREATEST_COUNTER, GREATEST_TIME, MOST_BYTES, MOST_OPERATIONS, compare_bytes, slice_known,
+    str_known,
+};
 use std::cmp::Ordering;
 
 fn is_below(a: &[u8], b: &[u8]) -> bool
@@ -67,22 +70,22 @@ fn are_good(front: &FrontRef<'_>, count: u64) -> bool
         && front.seq <= GREATEST_COUNTER
         && front.start >= 1
         && front.start <= GREATEST_COUNTER + 1 - count
-        && front.time > -(1 << 62)
-        && front.time < 1 << 62
+        && front.time >= -GREATEST_TIME
+        && front.time <= GREATEST_TIME
 }
 
 // Whether a change may have so many dependencies.
 pub fn are_few(count: u64) -> bool
     ensures { IsTrue result ↔ (count ≤ 2 ^ 22) }
 {
-    count <= 1 << 22
+    count <= MOST_OPERATIONS
 }
 
 // Whether so many bytes may stand behind the columns.
 pub fn is_short(bytes: &[u8]) -> bool
     ensures { IsTrue result ↔ (length bytes.now < 2 ^ 60) }
 {
-    bytes.len() < 1 << 60
+    bytes.len() <= MOST_BYTES
 }
 
 // Whether what stands beside the operations of a change, of which there are so many, passes each test.

@@ -1,5 +1,5 @@
 //! Reading a change back from the contents of its chunk.
-ghost use Rattle.std.specs.Prelude.{◌≡◌, ◌<◌, ◌≤◌, ◌^◌, ◌*◌, ◌++◌, ◌∷◌, ◌⊎◌, ◌↔◌, length, IsTrue, IfSome, IsSomeAnd};
+ghost use Rattle.std.specs.Prelude.{◌≡◌, ◌<◌, ◌≤◌, ◌^◌, ◌*◌, ◌++◌, ◌∷◌, ◌⊎◌, ◌↔◌, length, IsTrue, IfOk, IfSome, IsSomeAnd};
 ghost use Rattle.am_types.specs.declared.Change.{Change};
 ghost use Rattle.am_types.specs.Fine.{Fine};
 ghost use Rattle.am_colmeta.specs.Metadata.{listing, body, Ascend};
@@ -18,13 +18,29 @@ use crate::fine::are_fine_ops;
 use crate::fine_parts::is_fine_beside;
 use crate::front::FrontRef;
 use am_colmeta::Columns;
+use am_fields::specifications;
 use am_opcols::{OpColumns, OpCursor};
 use am_types::{Change, LONGEST_ACTOR, Op};
-use std::alloc::Global;
+use std::alloc::{AllocError, Global};
 use std::str::from_utf8;
 
 // The specifications of the columns that the operations of a change may have.
-const KNOWN: [u64; 14] = [1, 2, 17, 19, 21, 52, 66, 86, 87, 112, 113, 115, 148, 165];
+const KNOWN: [u64; 14] = [
+    specifications::OBJECT_ACTOR,
+    specifications::OBJECT_COUNTER,
+    specifications::KEY_ACTOR,
+    specifications::KEY_COUNTER,
+    specifications::KEY_NAME,
+    specifications::INSERT,
+    specifications::ACTION,
+    specifications::VALUE_METADATA,
+    specifications::VALUE_RAW,
+    specifications::PRED_COUNT,
+    specifications::PRED_ACTOR,
+    specifications::PRED_COUNTER,
+    specifications::EXPAND,
+    specifications::MARK,
+];
 
 // What stands behind the front of a change: its columns, the operations that they spell, its message, and the bytes behind
 // the columns.
@@ -94,14 +110,19 @@ pub fn length_known(bytes: &[u8])
 }
 
 // The same, of operations that were copied.
-fn is_canonical_of(front: &FrontRef<'_>, behind: &Behind<'_>, ops: &[Op]) -> bool
+fn is_canonical_of(
+    alloc: Global,
+    front: &FrontRef<'_>,
+    behind: &Behind<'_>,
+    ops: &[Op],
+) -> Result<bool, AllocError>
     requires spelled { SpellsOps (front.now.actor.now ∷ front.now.others) behind.now.columns ops.now }
     requires ascend { Ascend (listing behind.now.columns) }
     requires known { AreKnown op_specifications (listing behind.now.columns) }
-    ensures { IsTrue result ↔ ((front.now.others ≡ others_of front.now.actor.now ops.now) × (behind.now.columns ≡ written_columns front.now.actor.now ops.now)) }
+    ensures { IfOk result (λ canonical. IsTrue canonical ↔ ((front.now.others ≡ others_of front.now.actor.now ops.now) × (behind.now.columns ≡ written_columns front.now.actor.now ops.now))) }
 {
     let columns = &behind.columns;
-    columns.are_canonical_of(front.actor, &front.others, ops)
+    columns.are_canonical_of(alloc, front.actor, &front.others, ops)
 }
 
 // The change with these contents. What stands beside its operations is judged first; these are copied before they are
@@ -130,7 +151,10 @@ fn parsed(alloc: Global, bytes: &[u8]) -> Result<Change, ChangeFault>
     if !are_fine_ops(change.ops.as_slice()) {
         return Err(ChangeFault::BadChange);
     }
-    if !is_canonical_of(&front, &behind, change.ops.as_slice()) {
+    let Ok(canonical) = is_canonical_of(alloc, &front, &behind, change.ops.as_slice()) else {
+        return Err(ChangeFault::NoMemory);
+    };
+    if !canonical {
         return Err(ChangeFault::BadChange);
     }
     Ok(change)

@@ -6,17 +6,17 @@
 --     actors_tell, actors_back     the same of a column of places
 --     IsNamed names a      the actor is one of the names
 --     names_there          the actors that places name stand among the actors
-use Rattle.std.proofs.Common.{◌≡◌, ℕ, zero, suc, ◌<◌, ◌≤◌, ◌^◌, List, [], ◌∷◌, length, map, Option, Some, None, Bool, true, false, ℤ, pos, refl, sym, ap, ◌∙◌, subst, arith, inl, inr, ◌⊎◌, ⊎_elim}
+use Rattle.std.proofs.Common.{◌≡◌, ℕ, zero, suc, ◌≤◌, ◌^◌, List, [], ◌∷◌, length, map, Option, Some, None, Bool, true, false, ℤ, refl, sym, ap, ◌∙◌, subst, arith, inl, inr, ◌⊎◌, ⊎_elim}
 use Rattle.std.specs.Prelude.{slice_get, if◌then◌else◌}
 use Rattle.std.specs.Option.{option_map}
-use Rattle.std.specs.List.{flat_map, AllByRecursion}
+use Rattle.std.specs.List.{AllByRecursion}
 use Rattle.std.proofs.lemmas.List.{length-map}
 use Rattle.am_leb.specs.Leb.{uleb}
-use Rattle.am_runs.specs.Items.{ReadsItems, unsigned_end, text_end, text_spelling}
+use Rattle.am_runs.specs.Items.{unsigned_end, text_end, text_spelling}
 use Rattle.am_runs.specs.ItemLaws.{unsigned_reads, text_reads}
 use Rattle.am_runs.specs.Runs.{JoinsRuns, Spells}
-use Rattle.am_runs.specs.Canonical.{Canon, AreNulls, canonical_bytes}
-use Rattle.am_delta.specs.Deltas.{CanonDeltas, canonical_delta_bytes}
+use Rattle.am_runs.specs.Canonical.{AreNulls}
+use Rattle.am_delta.specs.Deltas.{canonical_delta_bytes}
 use Rattle.am_delta.proofs.Judged.{canon_tells, canon_back}
 use Rattle.am_delta.proofs.Judged as deltas
 use Rattle.am_flags.specs.Flags.{CanonFlags, CanonMaybe, JoinsFlags, canonical_maybe_bytes}

@@ -8,6 +8,7 @@ pub mod Named
 pub mod WrittenOps
 pub mod Chains
 pub mod NamedAlone
+pub mod NotedLaws
 pub mod EachColumnLaws
 pub mod ListedLaws
 pub mod CanonicalRead

@@ -3,17 +3,12 @@
 --     own_others           they are the others of the operations, if these name them all, and name no more
 --     named_listed         operations that columns spell name no more
 --     others_listed        the others of operations ascend without the author, and are named
-use Rattle.std.proofs.Common.{◌≡◌, ◌≢◌, ℕ, List, [], ◌∷◌, ◌++◌, length, map, refl, sym, ap, ◌∙◌, subst, Ordering, Less, Equal, Greater, Option, Some, None, ◌⊎◌, inl, inr, ⊎_elim, arith}
+use Rattle.std.proofs.Common.{◌≡◌, ℕ, List, [], ◌∷◌, ◌++◌, map, refl, sym, ap, ◌∙◌, subst, Less, Equal, Option, Some, None, ◌⊎◌, inl, inr, ⊎_elim}
 use Rattle.std.specs.List.{flat_map, AllByRecursion}
 use Rattle.std.specs.Option.{option_to_list}
 use Rattle.std.proofs.lemmas.Cmp.{nat_list_cmp_total, tied_itself}
-use Rattle.std.proofs.lemmas.Map.Lookups.{exact_bytes}
 use Rattle.std.proofs.lemmas.List.{map-append}
 use Rattle.am_types.specs.declared.OpId.{OpId}
-use Rattle.am_types.specs.declared.ObjId.{ObjId}
-use Rattle.am_types.specs.declared.Key.{Key}
-use Rattle.am_types.specs.declared.ObjId.TheVariants as objects
-use Rattle.am_types.specs.declared.Key.TheVariants as keys
 use Rattle.am_types.specs.declared.Op.{Op}
 use Rattle.am_types.specs.Order.{bytes_cmp}
 use Rattle.am_fields.specs.Layout.{object_actor, key_actor, id_actor, flat}
@@ -21,7 +16,7 @@ use Rattle.am_fields.specs.Actors.{IsListed}
 use Rattle.am_opcols.specs.Others.{actors_of, others}
 use Rattle.am_opcols.specs.Chains.{Chain, ChainFrom}
 use Rattle.am_opcols.specs.EachColumn.{AreNamed}
-use Rattle.am_opcols.proofs.Named.{others_there, there_left, there_right}
+use Rattle.am_opcols.proofs.Named.{others_there}
 use Rattle.am_opcols.proofs.NamedAlone.{others_alone, others_up}
 use Rattle.am_opcols.proofs.EachColumnLaws.{Distinct, IsNamed}
 

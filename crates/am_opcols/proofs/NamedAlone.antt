@@ -1,5 +1,5 @@
 -- The other actors are just those that operations name, without the author, each once and ascending.
-use Rattle.std.proofs.Common.{◌≡◌, ◌≢◌, ℕ, zero, suc, ◌+◌, ◌<◌, List, [], ◌∷◌, length, get_or, refl, ap, sym, subst, add-one, ◌∙◌, Bool, true, false, Ordering, Less, Equal, Greater, ◌⊎◌, inl, inr, ⊎_elim, arith, ◌↔◌}
+use Rattle.std.proofs.Common.{◌≡◌, ◌≢◌, ℕ, zero, suc, List, [], ◌∷◌, refl, ap, sym, ◌∙◌, true, false, Less, Equal, Greater, ◌⊎◌, inl, inr, ⊎_elim, arith, ◌↔◌}
 use Rattle.std.specs.Prelude.{if◌then◌else◌, Contains}
 use Rattle.std.specs.List.{flat_map}
 use Rattle.std.specs.Ordering.{ordering_reverse}

@@ -1,8 +1,7 @@
 -- The canonical columns of fine operations spell them.
-use Rattle.std.proofs.Common.{◌≡◌, ℕ, ◌+◌, ◌*◌, ◌<◌, ◌≤◌, ◌^◌, List, [], ◌∷◌, ◌++◌, length, map, refl, ap, arith, sym, ◌∙◌, subst, Option, Some, None, true, All}
-use Rattle.std.specs.Prelude.{IfSome, IsUtf8, ◌==◌, if◌then◌else◌, false, Bool}
-use Rattle.std.specs.Option.{option_map}
-use Rattle.std.specs.List.{flat_map, AllByRecursion}
+use Rattle.std.proofs.Common.{◌≡◌, ℕ, ◌<◌, ◌≤◌, ◌^◌, List, [], ◌∷◌, length, map, arith, sym, subst, Option, Some, true, All}
+use Rattle.std.specs.Prelude.{IfSome, IsUtf8, ◌==◌, if◌then◌else◌, false}
+use Rattle.std.specs.List.{AllByRecursion}
 use Rattle.std.proofs.lemmas.List.{length-append, length-map}
 use Rattle.std.proofs.lemmas.List.Elements.{recursion_from_All}
 use Rattle.am_types.specs.declared.OpId.{OpId}
@@ -17,7 +16,7 @@ use Rattle.am_types.specs.Values.{Good}
 use Rattle.am_colmeta.specs.Metadata.{listing, body, not_empty, column_at, Ascend}
 use Rattle.am_colmeta.proofs.Judging.{found_without_empty}
 use Rattle.am_colmeta.proofs.Entries.{body-not_empty}
-use Rattle.am_values.specs.Columns.{metadata, joined, AllGood}
+use Rattle.am_values.specs.Columns.{metadata}
 use Rattle.am_fields.specs.Limits.{IsWithin, IsObjectWithin, IsKeyWithin}
 use Rattle.am_fields.specs.Columns.{SpellsNumbers, SpellsDeltas, SpellsTexts, SpellsFlags, SpellsActors, SpellsColumns, spellings}
 use Rattle.am_fields.specs.Layout.{object_actor, object_counter, key_actor, key_counter, key_string, id_actor, id_counter, flat}

@@ -5,3 +5,4 @@ pub mod Counting
 pub mod Writing
 pub mod Chains
 pub mod EachColumn
+pub mod Noted

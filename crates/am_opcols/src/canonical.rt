@@ -1,5 +1,5 @@
 //! Whether columns that were read are the canonical ones of their operations. It takes no memory.
-ghost use Rattle.std.specs.Prelude.{◌≡◌, ◌↔◌, ◌∷◌, [], IsTrue};
+ghost use Rattle.std.specs.Prelude.{◌≡◌, ◌↔◌, ◌∷◌, [], IsTrue, IfOk};
 ghost use Rattle.am_colmeta.specs.Metadata.{listing, Ascend};
 ghost use Rattle.am_colmeta.specs.Judgement.{AreKnown};
 ghost use Rattle.am_opcols.specs.Columns.{op_specifications, SpellsOps};
@@ -10,10 +10,15 @@ ghost use Rattle.am_opcols.specs.EachColumn.{ArePlain};
 use crate::cursor::OpCursor;
 use crate::each_column::{are_numbers_canonical, are_remaining_canonical};
 use crate::found::OpColumns;
-use crate::listed::{are_named, ascend, lists};
+use crate::listed::{are_named, ascend, is_same, lists};
 use crate::naming::are_named_by;
+use crate::others::others_of;
 use am_colmeta::{ActorList, Columns};
-use am_types::Op;
+use am_types::{ActorId, Op};
+use std::alloc::{AllocError, Global};
+
+// The most other actors that are sought among owned operations one by one.
+const FEW: u64 = 64;
 
 // Whether no column is empty, each is the canonical spelling of some list, and the other actors ascend, without the
 // author.
@@ -25,6 +30,24 @@ fn are_plain(columns: &OpColumns<'_>, author: &[u8], others: &ActorList<'_>) -> 
         && are_remaining_canonical(columns)
         && ascend(others)
         && !lists(others, author)
+}
+
+// Whether just these actors are listed.
+fn are_listed(listed: &ActorList<'_>, actors: &[ActorId]) -> bool
+    ensures { IsTrue result ↔ (listed.now ≡ actors.now) }
+{
+    let mut rest = listed.again();
+    let mut left = actors;
+    while let Some((first, more)) = left.split_first() {
+        let Some(actor) = rest.next() else {
+            return false;
+        };
+        if !is_same(actor, first.as_slice()) {
+            return false;
+        }
+        left = more;
+    }
+    rest.next().is_none()
 }
 
 /// Whether the columns and the other actors of a change, of which these operations were read, are just those that a writer
@@ -58,16 +81,27 @@ impl<'a> OpColumns<'a> {
         are_named(others, ops)
     }
 
-    /// The same of operations that are owned.
-    pub fn are_canonical_of(&self, author: &[u8], others: &ActorList<'_>, ops: &[Op]) -> bool
+    /// The same of operations that are owned. Where there are few other actors, each costs a walk to the first operation
+    /// that names it; else those that operations name are gathered and sorted.
+    pub fn are_canonical_of(
+        &self,
+        alloc: Global,
+        author: &[u8],
+        others: &ActorList<'_>,
+        ops: &[Op],
+    ) -> Result<bool, AllocError>
         requires spelled { SpellsOps (author.now ∷ others.now) self.now ops.now }
         requires ascend { Ascend (listing self.now) }
         requires known { AreKnown op_specifications (listing self.now) }
-        ensures { IsTrue result ↔ ((others.now ≡ others_of author.now ops.now) × (self.now ≡ written_columns author.now ops.now)) }
+        ensures { IfOk result (λ canonical. IsTrue canonical ↔ ((others.now ≡ others_of author.now ops.now) × (self.now ≡ written_columns author.now ops.now))) }
     {
         if !are_plain(self, author, others) {
-            return false;
+            return Ok(false);
         }
-        are_named_by(others, ops)
+        if others.count() <= FEW {
+            return Ok(are_named_by(others, ops));
+        }
+        let named = others_of(alloc, ops, author)?;
+        Ok(are_listed(others, &named))
     }
 }

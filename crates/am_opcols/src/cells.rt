@@ -6,15 +6,15 @@ ghost use Rattle.am_types.specs.Fine.{FineOp};
 ghost use Rattle.am_types.specs.Values.{Good};
 ghost use Rattle.am_values.specs.Columns.{metadata};
 
-use am_fields::place_in;
-use am_types::{ActorId, Key, ObjId, Op, RawValue};
+use am_fields::ListedActors;
+use am_types::{Key, ObjId, Op, RawValue};
 
 /// A kind of number that a column has of operations.
 pub trait Cell {
     /// The number of an operation, if it has one. Places are those among these actors.
     ghost cell: { List (List ℕ) → Op → Option ℕ };
 
-    fn of(actors: &[ActorId], op: &Op) -> Option<u64>
+    fn of(actors: &ListedActors<'_>, op: &Op) -> Option<u64>
         requires { FineOp op.now }
         ensures { result ≡ cell actors.now op.now };
 }
@@ -29,10 +29,10 @@ impl Cell for ObjectPlace {
 
     ghost cell = { λ actors o. option_map (place_of actors) (object_actor o.obj) };
 
-    fn of(actors: &[ActorId], op: &Op) -> Option<u64> {
+    fn of(actors: &ListedActors<'_>, op: &Op) -> Option<u64> {
         match &op.obj {
             ObjId::Root => None,
-            ObjId::Made(id) => Some(place_in(actors, id.actor.as_slice())),
+            ObjId::Made(id) => Some(actors.place(id.actor.as_slice())),
         }
     }
 }
@@ -45,7 +45,7 @@ impl Cell for ObjectCounter {
 
     ghost cell = { λ actors o. object_counter o.obj };
 
-    fn of(_actors: &[ActorId], op: &Op) -> Option<u64> {
+    fn of(_actors: &ListedActors<'_>, op: &Op) -> Option<u64> {
         match &op.obj {
             ObjId::Root => None,
             ObjId::Made(id) => Some(id.counter),
@@ -63,11 +63,11 @@ impl Cell for KeyPlace {
 
     ghost cell = { λ actors o. option_map (place_of actors) (key_actor o.key) };
 
-    fn of(actors: &[ActorId], op: &Op) -> Option<u64> {
+    fn of(actors: &ListedActors<'_>, op: &Op) -> Option<u64> {
         match &op.key {
             Key::Name(_) => None,
             Key::Head => None,
-            Key::Elem(id) => Some(place_in(actors, id.actor.as_slice())),
+            Key::Elem(id) => Some(actors.place(id.actor.as_slice())),
         }
     }
 }
@@ -80,7 +80,7 @@ impl Cell for Action {
 
     ghost cell = { λ actors o. Some o.action };
 
-    fn of(_actors: &[ActorId], op: &Op) -> Option<u64> {
+    fn of(_actors: &ListedActors<'_>, op: &Op) -> Option<u64> {
         Some(u64::from(op.action))
     }
 }
@@ -102,7 +102,7 @@ impl Cell for Metadata {
 
     ghost cell = { λ actors o. Some (metadata o.value) };
 
-    fn of(_actors: &[ActorId], op: &Op) -> Option<u64> {
+    fn of(_actors: &ListedActors<'_>, op: &Op) -> Option<u64> {
         Some(metadata_of(&op.value))
     }
 }
@@ -115,7 +115,7 @@ impl Cell for PredCount {
 
     ghost cell = { λ actors o. Some (length o.preds) };
 
-    fn of(_actors: &[ActorId], op: &Op) -> Option<u64> {
+    fn of(_actors: &ListedActors<'_>, op: &Op) -> Option<u64> {
         Some(op.preds.len() as u64)
     }
 }

@@ -11,15 +11,15 @@ ghost use Rattle.am_fields.specs.Layout.{key_counter as counter_of_key, key_stri
 use crate::cells::Cell;
 use crate::counting::{count_delta, count_number, count_text};
 use am_delta::DeltaWriter;
-use am_fields::{IdWriter, NumberWriter, TextWriter, text_in};
+use am_fields::{IdWriter, ListedActors, NumberWriter, TextWriter, text_in};
 use am_flags::FlagWriter;
-use am_types::{ActorId, Bytes, Key, Op};
+use am_types::{Bytes, Key, Op};
 use std::alloc::{AllocError, Global};
 
 /// The column of such numbers.
 pub fn numbers_in<C: Cell>(
     alloc: Global,
-    actors: &[ActorId],
+    actors: &ListedActors<'_>,
     ops: &[Op],
 ) -> Result<Bytes, AllocError>
     requires fine { All FineOp ops.now }
@@ -143,7 +143,11 @@ pub fn raw_in(alloc: Global, ops: &[Op]) -> Result<Bytes, AllocError>
 }
 
 // Writes the predecessors, one operation after another.
-fn write_preds(writer: &mut IdWriter, actors: &[ActorId], ops: &[Op]) -> Result<(), AllocError>
+fn write_preds(
+    writer: &mut IdWriter,
+    actors: &ListedActors<'_>,
+    ops: &[Op],
+) -> Result<(), AllocError>
     requires new { IdsHeld actors.now [] writer.old }
     requires fine { All FineOp ops.now }
     requires few { pred_count ops.now ≤ 2 ^ 22 }
@@ -156,7 +160,11 @@ fn write_preds(writer: &mut IdWriter, actors: &[ActorId], ops: &[Op]) -> Result<
 }
 
 /// The columns of the actors and of the counters of predecessors.
-pub fn preds_in(alloc: Global, actors: &[ActorId], ops: &[Op]) -> Result<(Bytes, Bytes), AllocError>
+pub fn preds_in(
+    alloc: Global,
+    actors: &ListedActors<'_>,
+    ops: &[Op],
+) -> Result<(Bytes, Bytes), AllocError>
     requires fine { All FineOp ops.now }
     requires few { pred_count ops.now ≤ 2 ^ 22 }
     ensures { IfOk result (λ text. IdsSpelled actors.now (flat (map (λ o. o.preds) ops.now)) text.0 text.1) }

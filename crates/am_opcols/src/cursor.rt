@@ -10,7 +10,7 @@ use crate::op::OpRef;
 use am_colmeta::{ActorList, Columns};
 use am_fields::{
     ActionColumn, Actors, BadFields, FlagColumn, GroupColumns, KeyColumns, ObjectColumns,
-    TextColumn, ValueColumns, is_given,
+    TextColumn, ValueColumns, is_given, specifications,
 };
 use std::marker::Model;
 
@@ -52,20 +52,20 @@ fn opened<'a>(columns: &OpColumns<'a>, actors: &Actors<'a>) -> Result<OpCursor<'
     ensures spelled { IfOk result (SpellsOps actors.now columns.now) }
     ensures err { OnErr result ((ops : List Op) → SpellsOps actors.now columns.now ops → ⊥) }
 {
-    let action = columns.find(66);
-    let insert = columns.find(52);
-    let expand = columns.find(148);
-    let mark = columns.find(165);
-    let object_actor = columns.find(1);
-    let object_counter = columns.find(2);
-    let key_actor = columns.find(17);
-    let key_counter = columns.find(19);
-    let key_name = columns.find(21);
-    let numbers = columns.find(86);
-    let raw = columns.find(87);
-    let group = columns.find(112);
-    let pred_actor = columns.find(113);
-    let pred_counter = columns.find(115);
+    let action = columns.find(specifications::ACTION);
+    let insert = columns.find(specifications::INSERT);
+    let expand = columns.find(specifications::EXPAND);
+    let mark = columns.find(specifications::MARK);
+    let object_actor = columns.find(specifications::OBJECT_ACTOR);
+    let object_counter = columns.find(specifications::OBJECT_COUNTER);
+    let key_actor = columns.find(specifications::KEY_ACTOR);
+    let key_counter = columns.find(specifications::KEY_COUNTER);
+    let key_name = columns.find(specifications::KEY_NAME);
+    let numbers = columns.find(specifications::VALUE_METADATA);
+    let raw = columns.find(specifications::VALUE_RAW);
+    let group = columns.find(specifications::PRED_COUNT);
+    let pred_actor = columns.find(specifications::PRED_ACTOR);
+    let pred_counter = columns.find(specifications::PRED_COUNTER);
     let actions = ActionColumn::over(action)?;
     let count = actions.left();
     let objects = ObjectColumns::over(object_actor, object_counter, actors, count)?;

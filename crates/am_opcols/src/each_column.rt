@@ -4,6 +4,7 @@ ghost use Rattle.am_colmeta.specs.Metadata.{column_at};
 ghost use Rattle.am_opcols.specs.EachColumn.{CanonicalNumbers, CanonicalTexts, CanonicalDeltas, CanonicalFlags, CanonicalMaybe, AreNumbersCanonical, AreRemainingCanonical};
 
 use crate::found::OpColumns;
+use am_fields::specifications;
 use am_runs::{TextItem, UnsignedItem, is_canonical};
 use am_types::MOST_OPERATIONS;
 
@@ -47,31 +48,31 @@ fn has_bytes(columns: &OpColumns<'_>, specification: u64) -> bool
 fn inserts_stand(columns: &OpColumns<'_>) -> bool
     ensures { IsTrue result ↔ (column_at columns.now 52 ≡ [] → column_at columns.now 66 ≡ []) }
 {
-    has_bytes(columns, 52) || !has_bytes(columns, 66)
+    has_bytes(columns, specifications::INSERT) || !has_bytes(columns, specifications::ACTION)
 }
 
 // Whether the columns of numbers are canonical.
 pub fn are_numbers_canonical(columns: &OpColumns<'_>) -> bool
     ensures { IsTrue result ↔ AreNumbersCanonical columns.now }
 {
-    has_numbers(columns, 1)
-        && has_numbers(columns, 2)
-        && has_numbers(columns, 17)
-        && has_numbers(columns, 66)
-        && has_numbers(columns, 86)
-        && has_numbers(columns, 112)
-        && has_numbers(columns, 113)
+    has_numbers(columns, specifications::OBJECT_ACTOR)
+        && has_numbers(columns, specifications::OBJECT_COUNTER)
+        && has_numbers(columns, specifications::KEY_ACTOR)
+        && has_numbers(columns, specifications::ACTION)
+        && has_numbers(columns, specifications::VALUE_METADATA)
+        && has_numbers(columns, specifications::PRED_COUNT)
+        && has_numbers(columns, specifications::PRED_ACTOR)
 }
 
 // Whether the columns of deltas, texts and flags are canonical.
 pub fn are_remaining_canonical(columns: &OpColumns<'_>) -> bool
     ensures { IsTrue result ↔ AreRemainingCanonical columns.now }
 {
-    has_deltas(columns, 19)
-        && has_deltas(columns, 115)
-        && has_texts(columns, 21)
-        && has_texts(columns, 165)
-        && has_flags(columns, 52)
+    has_deltas(columns, specifications::KEY_COUNTER)
+        && has_deltas(columns, specifications::PRED_COUNTER)
+        && has_texts(columns, specifications::KEY_NAME)
+        && has_texts(columns, specifications::MARK)
+        && has_flags(columns, specifications::INSERT)
         && inserts_stand(columns)
-        && has_rare_flags(columns, 148)
+        && has_rare_flags(columns, specifications::EXPAND)
 }

@@ -3,6 +3,7 @@ ghost use Rattle.std.specs.Prelude.{◌≡◌, ◌≤◌, ◌<◌, ◌↔◌, �
 ghost use Rattle.am_colmeta.specs.Metadata.{listing, column_at, AreFilled};
 
 use am_colmeta::Columns;
+use am_fields::specifications;
 use std::marker::Model;
 
 /// The columns of a change's operations. Each is looked for once; one that isn't listed has no bytes. A contract sees the
@@ -78,20 +79,20 @@ impl<'a> OpColumns<'a> {
     {
         let mut rest = columns.again();
         OpColumns {
-            object_actor: take(&columns, &mut rest, 1),
-            object_counter: take(&columns, &mut rest, 2),
-            key_actor: take(&columns, &mut rest, 17),
-            key_counter: take(&columns, &mut rest, 19),
-            key_name: take(&columns, &mut rest, 21),
-            insert: take(&columns, &mut rest, 52),
-            action: take(&columns, &mut rest, 66),
-            numbers: take(&columns, &mut rest, 86),
-            raw: take(&columns, &mut rest, 87),
-            group: take(&columns, &mut rest, 112),
-            pred_actor: take(&columns, &mut rest, 113),
-            pred_counter: take(&columns, &mut rest, 115),
-            expand: take(&columns, &mut rest, 148),
-            mark: take(&columns, &mut rest, 165),
+            object_actor: take(&columns, &mut rest, specifications::OBJECT_ACTOR),
+            object_counter: take(&columns, &mut rest, specifications::OBJECT_COUNTER),
+            key_actor: take(&columns, &mut rest, specifications::KEY_ACTOR),
+            key_counter: take(&columns, &mut rest, specifications::KEY_COUNTER),
+            key_name: take(&columns, &mut rest, specifications::KEY_NAME),
+            insert: take(&columns, &mut rest, specifications::INSERT),
+            action: take(&columns, &mut rest, specifications::ACTION),
+            numbers: take(&columns, &mut rest, specifications::VALUE_METADATA),
+            raw: take(&columns, &mut rest, specifications::VALUE_RAW),
+            group: take(&columns, &mut rest, specifications::PRED_COUNT),
+            pred_actor: take(&columns, &mut rest, specifications::PRED_ACTOR),
+            pred_counter: take(&columns, &mut rest, specifications::PRED_COUNTER),
+            expand: take(&columns, &mut rest, specifications::EXPAND),
+            mark: take(&columns, &mut rest, specifications::MARK),
             columns,
         }
     }
@@ -101,20 +102,20 @@ impl<'a> OpColumns<'a> {
         ensures { result.now ≡ column_at self.now specification }
     {
         match specification {
-            1 => self.object_actor,
-            2 => self.object_counter,
-            17 => self.key_actor,
-            19 => self.key_counter,
-            21 => self.key_name,
-            52 => self.insert,
-            66 => self.action,
-            86 => self.numbers,
-            87 => self.raw,
-            112 => self.group,
-            113 => self.pred_actor,
-            115 => self.pred_counter,
-            148 => self.expand,
-            165 => self.mark,
+            specifications::OBJECT_ACTOR => self.object_actor,
+            specifications::OBJECT_COUNTER => self.object_counter,
+            specifications::KEY_ACTOR => self.key_actor,
+            specifications::KEY_COUNTER => self.key_counter,
+            specifications::KEY_NAME => self.key_name,
+            specifications::INSERT => self.insert,
+            specifications::ACTION => self.action,
+            specifications::VALUE_METADATA => self.numbers,
+            specifications::VALUE_RAW => self.raw,
+            specifications::PRED_COUNT => self.group,
+            specifications::PRED_ACTOR => self.pred_actor,
+            specifications::PRED_COUNTER => self.pred_counter,
+            specifications::EXPAND => self.expand,
+            specifications::MARK => self.mark,
             _ => self.columns.find(specification),
         }
     }

@@ -12,7 +12,7 @@ use crate::columns::{
     expands_in, inserts_in, key_counters_in, key_names_in, marks_in, numbers_in, preds_in, raw_in,
 };
 use crate::others::others_of;
-use am_fields::columns_of;
+use am_fields::{ListedActors, columns_of, specifications};
 use am_types::{ActorId, Bytes, List, Op, Twin};
 use std::alloc::{AllocError, Global};
 
@@ -30,7 +30,7 @@ pub struct OpsText {
 // The columns of the operations, one after another.
 fn columns_in(
     alloc: Global,
-    actors: &[ActorId],
+    actors: &ListedActors<'_>,
     ops: &[Op],
 ) -> Result<Vec<(u64, Bytes)>, AllocError>
     requires fine { All FineOp ops.now }
@@ -52,25 +52,29 @@ fn columns_in(
     let expand = expands_in(alloc, ops)?;
     let mark = marks_in(alloc, ops)?;
     let mut columns = Vec::with_capacity(alloc, 14)?;
-    columns.push((1, object_actor))?;
-    columns.push((2, object_counter))?;
-    columns.push((17, key_actor))?;
-    columns.push((19, key_counter))?;
-    columns.push((21, key_name))?;
-    columns.push((52, insert))?;
-    columns.push((66, action))?;
-    columns.push((86, numbers))?;
-    columns.push((87, raw))?;
-    columns.push((112, lengths))?;
-    columns.push((113, places))?;
-    columns.push((115, counters))?;
-    columns.push((148, expand))?;
-    columns.push((165, mark))?;
+    columns.push((specifications::OBJECT_ACTOR, object_actor))?;
+    columns.push((specifications::OBJECT_COUNTER, object_counter))?;
+    columns.push((specifications::KEY_ACTOR, key_actor))?;
+    columns.push((specifications::KEY_COUNTER, key_counter))?;
+    columns.push((specifications::KEY_NAME, key_name))?;
+    columns.push((specifications::INSERT, insert))?;
+    columns.push((specifications::ACTION, action))?;
+    columns.push((specifications::VALUE_METADATA, numbers))?;
+    columns.push((specifications::VALUE_RAW, raw))?;
+    columns.push((specifications::PRED_COUNT, lengths))?;
+    columns.push((specifications::PRED_ACTOR, places))?;
+    columns.push((specifications::PRED_COUNTER, counters))?;
+    columns.push((specifications::EXPAND, expand))?;
+    columns.push((specifications::MARK, mark))?;
     Ok(columns)
 }
 
 // The metadata and the body of the operations.
-fn text_of(alloc: Global, actors: &[ActorId], ops: &[Op]) -> Result<(Bytes, Bytes), AllocError>
+fn text_of(
+    alloc: Global,
+    actors: &ListedActors<'_>,
+    ops: &[Op],
+) -> Result<(Bytes, Bytes), AllocError>
     requires fine { All FineOp ops.now }
     requires few { length ops.now ≤ 2 ^ 22 }
     requires few_preds { pred_count ops.now ≤ 2 ^ 22 }
@@ -90,10 +94,10 @@ pub fn write_ops(alloc: Global, ops: &[Op], author: &ActorId) -> Result<OpsText,
     ensures metadata { IfOk result (λ text. text.metadata ≡ metadata (listing (written_columns author.now ops.now))) }
     ensures body { IfOk result (λ text. text.body ≡ body (written_columns author.now ops.now)) }
 {
-    let mut actors = others_of(alloc, ops, author)?;
+    let mut actors = others_of(alloc, ops, author.as_slice())?;
     let first = author.copy(alloc)?;
     actors.insert(0, first)?;
-    let (metadata, body) = text_of(alloc, &actors, ops)?;
+    let (metadata, body) = text_of(alloc, &ListedActors::of(&actors), ops)?;
     let _author = actors.remove(0);
     Ok(OpsText {
         others: List::from(actors),

@@ -73,15 +73,15 @@ is_canonical_of-requires c =
       known = c.in-Some-opened.ensures.are_known;
     }
 
-pub returns-then-not-is_canonical_of : goal.returns-then-not-is_canonical_of
-returns-then-not-is_canonical_of c =
+pub returns-then-not-canonical : goal.returns-then-not-canonical
+returns-then-not-canonical c =
     let behind = c.in-Some-opened.behind in
     let whole : c.in-Ok.change ≡ change_with (front_of c.in-Some.front) behind.ops behind.extra.now = c.in-Ok.ensures ∙ ap (λ (os : List Op). change_with (front_of c.in-Some.front) os behind.extra.now) c.again-ops.ensures in
     let own : c.as_slice-2.result.now ≡ behind.ops = c.as_slice-2.ensures ∙ ap (λ (x : Change). x.ops) whole in
     no_change c.args.bytes.now (front_of c.in-Some.front) c.in-Some.rest.now c.length_known.ensures c.in-Some.ensures.some.0 c.in-Some.ensures.some.1 (λ h. absurd (cc (c.if-compressed.ensures.some.1 h)))
     (λ d fine s e r b.
     let got = c.in-Some-opened.ensures.only d fine s e r in
-    absurd (cc (c.if-not-is_canonical_of.ensures.1 (canonical_as (front_of c.in-Some.front) behind.columns c.as_slice-2.result.now d e (own ∙ got.0) got.2))))
+    absurd (let no = c.if-not-canonical.true in cc (c.in-Ok-is_canonical_of.ensures.1 (canonical_as (front_of c.in-Some.front) behind.columns c.as_slice-2.result.now d e (own ∙ got.0) got.2))))
 
 pub returns : goal.returns
 returns c =
@@ -89,7 +89,7 @@ returns c =
     let whole : c.in-Ok.change ≡ change_with (front_of c.in-Some.front) behind.ops behind.extra.now = c.in-Ok.ensures ∙ ap (λ (os : List Op). change_with (front_of c.in-Some.front) os behind.extra.now) c.again-ops.ensures in
     let f = front_of c.in-Some.front in
     let own : c.as_slice-2.result.now ≡ behind.ops = c.as_slice-2.ensures ∙ ap (λ (x : Change). x.ops) whole in
-    let canonical = c.if-not-is_canonical_of.ensures.0 refl in
+    let canonical = c.in-Ok-is_canonical_of.ensures.0 (let yes = c.if-not-canonical.false in cc) in
     let told = own_contents c.args.bytes.now c.in-Some.rest.now f behind.columns behind.ops behind.extra.now c.in-Some.ensures.some.1 c.in-Some-opened.ensures.joined c.in-Some-opened.ensures.listed
     (canonical.0 ∙ ap (others f.actor) own) (canonical.1 ∙ ap (written_columns f.actor) own) in
     let within = (c.in-Some-opened.ensures.spelled).within in

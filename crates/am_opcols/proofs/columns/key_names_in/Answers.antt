@@ -1,4 +1,4 @@
-use Rattle.std.proofs.Common.{◌≡◌, ◌+◌, ◌<◌, ◌≤◌, ◌^◌, ◌∷◌, ◌++◌, [], ℕ, List, Option, None, length, map, take, option_map, arith, sym, ap, ◌∙◌, subst}
+use Rattle.std.proofs.Common.{◌≡◌, ◌+◌, ◌≤◌, ◌^◌, ◌∷◌, ◌++◌, [], ℕ, List, Option, None, length, map, take, option_map, arith, sym, ap, ◌∙◌, subst}
 use Rattle.std.proofs.lemmas.List.{length-map, length-take-le}
 use Rattle.am_types.specs.declared.Op.{Op}
 use Rattle.am_fields.specs.Layout.{key_string}
@@ -6,7 +6,7 @@ use Rattle.am_fields.specs.Columns.{texts_bytes}
 use Rattle.am_fields.proofs.WriteLaws.{held}
 use Rattle.am_fields.proofs.CanonicalLaws.{texts_canonical}
 use Rattle.am_opcols.specs.Counting.{Counts}
-use Rattle.am_opcols.proofs.WriteLaws.{fine_at, field_next, all_taken, ok_then, fused2}
+use Rattle.am_opcols.proofs.WriteLaws.{field_next, all_taken, ok_then}
 use Rattle.am_opcols.proofs.CountingLaws.{counts_none, counts_below, counts_fit, counts_written}
 use Rattle.am_opcols.proofs.columns.key_names_in.Goals as goal
 

@@ -1,4 +1,4 @@
-use Rattle.std.proofs.Common.{◌≡◌, ◌≤◌, ◌^◌, List, map, option_map, length, arith}
+use Rattle.std.proofs.Common.{◌≤◌, ◌^◌, map, option_map, length, arith}
 use Rattle.std.proofs.lemmas.List.{length-map}
 use Rattle.am_fields.specs.Columns.{place_of}
 use Rattle.am_fields.specs.Layout.{id_actor, flat}

@@ -1,6 +1,4 @@
-use Rattle.std.proofs.Common.{◌≡◌, ◌++◌, List, map, take, sym, ap, ◌∙◌, arith}
-use Rattle.am_types.specs.declared.Op.{Op}
-use Rattle.am_values.specs.Columns.{joined}
+use Rattle.std.proofs.Common.{◌++◌, take, sym, ◌∙◌}
 use Rattle.am_opcols.proofs.WriteLaws.{joined_next}
 use Rattle.am_opcols.proofs.columns.raw_in.Goals as goal
 

@@ -1,4 +1,4 @@
-use Rattle.std.proofs.Common.{◌≡◌, ℕ, List, sym, ap, ◌∙◌, subst}
+use Rattle.std.proofs.Common.{◌≡◌, ℕ, List, sym, ◌∙◌, subst}
 use Rattle.std.specs.Prelude.{IfOk}
 use Rattle.am_colmeta.specs.Metadata.{metadata, listing, body, not_empty, Ascend}
 use Rattle.am_opcols.proofs.WrittenOps.{ascending}

@@ -1,4 +1,4 @@
-use Rattle.std.proofs.Common.{◌≡◌, ◌∷◌, ℕ, List, ◌∙◌}
+use Rattle.std.proofs.Common.{◌≡◌, ◌∷◌, ℕ, List, ap, ◌∙◌}
 use Rattle.am_colmeta.specs.Metadata.{metadata, listing, body, not_empty}
 use Rattle.am_fields.specs.Columns.{spellings}
 use Rattle.am_opcols.specs.Columns.{op_columns}
@@ -9,14 +9,14 @@ use Rattle.am_opcols.proofs.write.write_ops.Goals as goal
 
 pub returns-clause-metadata : goal.returns-clause-metadata
 returns-clause-metadata c =
-    let actors_are : c.deref.result.now ≡ c.args.author.now ∷ others c.args.author.now c.args.ops.now =
-    first_of c.deref.result.now c.in_ok-actors.actors.items (others c.args.author.now c.args.ops.now) c.in_ok-first.first c.args.author.now (c.deref.ensures.value ∙ c.in_ok-insert.ensures.items) c.in_ok-first.ensures c.in_ok-actors.ensures in
+    let actors_are : c.of.result ≡ c.args.author.now ∷ others c.args.author.now c.args.ops.now =
+    first_of c.of.result c.in_ok-actors.actors.items (others c.args.author.now c.args.ops.now) c.in_ok-first.first c.args.author.now (c.of.ensures ∙ c.deref.ensures.value ∙ c.in_ok-insert.ensures.items) c.in_ok-first.ensures (c.in_ok-actors.ensures ∙ ap (λ a. others a c.args.ops.now) c.as_slice.ensures.value) in
     let P : List (List ℕ) → Type 0 = λ actors. c.in_ok-metadata.metadata ≡ metadata (listing (not_empty (spellings actors (op_columns c.args.ops.now)))) in
     subst P actors_are c.in_ok-metadata.ensures.metadata
 
 pub returns-clause-body : goal.returns-clause-body
 returns-clause-body c =
-    let actors_are : c.deref.result.now ≡ c.args.author.now ∷ others c.args.author.now c.args.ops.now =
-    first_of c.deref.result.now c.in_ok-actors.actors.items (others c.args.author.now c.args.ops.now) c.in_ok-first.first c.args.author.now (c.deref.ensures.value ∙ c.in_ok-insert.ensures.items) c.in_ok-first.ensures c.in_ok-actors.ensures in
+    let actors_are : c.of.result ≡ c.args.author.now ∷ others c.args.author.now c.args.ops.now =
+    first_of c.of.result c.in_ok-actors.actors.items (others c.args.author.now c.args.ops.now) c.in_ok-first.first c.args.author.now (c.of.ensures ∙ c.deref.ensures.value ∙ c.in_ok-insert.ensures.items) c.in_ok-first.ensures (c.in_ok-actors.ensures ∙ ap (λ a. others a c.args.ops.now) c.as_slice.ensures.value) in
     let P : List (List ℕ) → Type 0 = λ actors. c.in_ok-metadata.body ≡ body (not_empty (spellings actors (op_columns c.args.ops.now))) in
     subst P actors_are c.in_ok-metadata.ensures.body

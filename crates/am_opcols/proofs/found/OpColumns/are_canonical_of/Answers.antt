@@ -1,5 +1,7 @@
-use Rattle.std.proofs.Common.{refl}
+use Rattle.std.proofs.Common.{refl, sym, subst, ◌∙◌}
+use Rattle.am_opcols.specs.EachColumn.{AreNamed}
 use Rattle.am_opcols.proofs.CanonicalRead.{tested, untested}
+use Rattle.am_opcols.proofs.ListedLaws.{others_are_named}
 use Rattle.am_opcols.proofs.found.OpColumns.are_canonical_of.Goals as goal
 
 pub returns-then-not-are_plain : goal.returns-then-not-are_plain
@@ -10,10 +12,19 @@ returns-then-not-are_plain c = (
       absurd (cc (c.if-not-are_plain.ensures.1 passed.plain)),
 )
 
-pub returns : goal.returns
-returns c = (
+pub returns-then-count-le-FEW : goal.returns-then-count-le-FEW
+returns-then-count-le-FEW c = (
   λ e. tested c.args.author.now c.args.others.now c.args.self.now c.args.ops.now c.requires.spelled c.requires.ascend c.requires.known (c.if-not-are_plain.ensures.0 refl) (c.are_named_by.ensures.0 e),
   λ w.
       let passed = untested c.args.author.now c.args.others.now c.args.self.now c.args.ops.now c.requires.spelled w.0 w.1 in
       c.are_named_by.ensures.1 passed.named,
+)
+
+pub returns : goal.returns
+returns c = (
+  λ e.
+      let own = c.are_listed.ensures.0 e ∙ c.deref.ensures.value ∙ c.in_ok-named.ensures in
+      let named = (others_are_named c.args.author.now c.args.ops.now).2 in
+      tested c.args.author.now c.args.others.now c.args.self.now c.args.ops.now c.requires.spelled c.requires.ascend c.requires.known (c.if-not-are_plain.ensures.0 refl) (subst (λ l. AreNamed l c.args.ops.now) (sym own) named),
+  λ w. c.are_listed.ensures.1 (w.0 ∙ sym (c.deref.ensures.value ∙ c.in_ok-named.ensures)),
 )

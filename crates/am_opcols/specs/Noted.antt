@@ -1,0 +1,9 @@
+-- Actors that are noted as they are met.
+--     Notes author xs old new     to the old ones those of xs other than the author were noted, each at least once
+use Rattle.std.specs.Prelude.{◌≡◌, ◌≢◌, ◌⊎◌, ℕ, List}
+use Rattle.am_fields.specs.Actors.{IsListed}
+
+pub record Notes (author : List ℕ) (xs old new : List (List ℕ)) : Type 0 where
+  pub kept : (a : List ℕ) → IsListed old a → IsListed new a
+  pub noted : (a : List ℕ) → IsListed xs a → (a ≡ author) ⊎ IsListed new a
+  pub alone : (a : List ℕ) → IsListed new a → (IsListed xs a × (a ≢ author)) ⊎ IsListed old a
