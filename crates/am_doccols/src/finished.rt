@@ -6,7 +6,7 @@ ghost use Rattle.am_doccols.specs.Columns.{row_columns};
 ghost use Rattle.am_fields.specs.Rooms.{IsShort, AreShort};
 ghost use Rattle.am_doccols.specs.Writing.{RowsHeld};
 
-use am_fields::{FieldWriter, IdWriter, NumberWriter};
+use am_fields::{FieldWriter, IdWriter, NumberWriter, specifications};
 use am_types::Bytes;
 use std::alloc::{AllocError, Global};
 
@@ -29,21 +29,21 @@ pub fn columns_in(
     let lengths = lengths.finish()?;
     let (succ_places, succ_counters) = succs.finish()?;
     let mut columns = Vec::new(alloc);
-    columns.push((1, fields.object_actor))?;
-    columns.push((2, fields.object_counter))?;
-    columns.push((17, fields.key_actor))?;
-    columns.push((19, fields.key_counter))?;
-    columns.push((21, fields.key_name))?;
-    columns.push((33, id_places))?;
-    columns.push((35, id_counters))?;
-    columns.push((52, fields.insert))?;
-    columns.push((66, fields.action))?;
-    columns.push((86, fields.numbers))?;
-    columns.push((87, fields.raw))?;
-    columns.push((128, lengths))?;
-    columns.push((129, succ_places))?;
-    columns.push((131, succ_counters))?;
-    columns.push((148, fields.expand))?;
-    columns.push((165, fields.mark))?;
+    columns.push((specifications::OBJECT_ACTOR, fields.object_actor))?;
+    columns.push((specifications::OBJECT_COUNTER, fields.object_counter))?;
+    columns.push((specifications::KEY_ACTOR, fields.key_actor))?;
+    columns.push((specifications::KEY_COUNTER, fields.key_counter))?;
+    columns.push((specifications::KEY_NAME, fields.key_name))?;
+    columns.push((specifications::ID_ACTOR, id_places))?;
+    columns.push((specifications::ID_COUNTER, id_counters))?;
+    columns.push((specifications::INSERT, fields.insert))?;
+    columns.push((specifications::ACTION, fields.action))?;
+    columns.push((specifications::VALUE_METADATA, fields.numbers))?;
+    columns.push((specifications::VALUE_RAW, fields.raw))?;
+    columns.push((specifications::SUCC_COUNT, lengths))?;
+    columns.push((specifications::SUCC_ACTOR, succ_places))?;
+    columns.push((specifications::SUCC_COUNTER, succ_counters))?;
+    columns.push((specifications::EXPAND, fields.expand))?;
+    columns.push((specifications::MARK, fields.mark))?;
     Ok(columns)
 }

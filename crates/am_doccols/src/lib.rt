@@ -9,6 +9,7 @@ mod lent;
 mod meta;
 mod meta_columns;
 mod meta_finished;
+pub mod meta_specifications;
 mod meta_writer;
 mod metas;
 mod row;

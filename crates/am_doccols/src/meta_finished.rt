@@ -7,6 +7,7 @@ ghost use Rattle.am_fields.specs.Rooms.{IsShort};
 ghost use Rattle.am_doccols.specs.MetaWriting.{MetasHeld};
 
 use crate::meta_columns::MetaColumns;
+use crate::meta_specifications;
 use am_types::Bytes;
 use std::alloc::{AllocError, Global};
 
@@ -18,15 +19,15 @@ pub fn meta_columns_in(alloc: Global, w: MetaColumns) -> Result<Vec<(u64, Bytes)
     ensures { IfOk result (λ columns. (actors : List (List ℕ)) (metas : List Meta) → MetasHeld actors metas w → columns.items ≡ spellings actors (meta_columns metas)) }
 {
     let mut columns = Vec::new(alloc);
-    columns.push((1, w.actor.finish()?))?;
-    columns.push((3, w.seq.finish()?))?;
-    columns.push((19, w.max.finish()?))?;
-    columns.push((35, w.time.finish()?))?;
-    columns.push((53, w.message.finish()?))?;
-    columns.push((64, w.lengths.finish()?))?;
-    columns.push((67, w.deps.finish()?))?;
+    columns.push((meta_specifications::AUTHOR, w.actor.finish()?))?;
+    columns.push((meta_specifications::SEQ, w.seq.finish()?))?;
+    columns.push((meta_specifications::MAX, w.max.finish()?))?;
+    columns.push((meta_specifications::TIME, w.time.finish()?))?;
+    columns.push((meta_specifications::MESSAGE, w.message.finish()?))?;
+    columns.push((meta_specifications::DEP_COUNT, w.lengths.finish()?))?;
+    columns.push((meta_specifications::DEP_INDEX, w.deps.finish()?))?;
     let (numbers, raw) = w.extra.finish()?;
-    columns.push((86, numbers))?;
-    columns.push((87, raw))?;
+    columns.push((meta_specifications::EXTRA_METADATA, numbers))?;
+    columns.push((meta_specifications::EXTRA_RAW, raw))?;
     Ok(columns)
 }

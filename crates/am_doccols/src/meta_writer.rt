@@ -15,8 +15,8 @@ use crate::meta_finished::meta_columns_in;
 use crate::metas::MetaCursor;
 use crate::row_writer::actors_in;
 use am_delta::DeltaWriter;
-use am_fields::{NumberWriter, TextWriter, columns_of, place_in};
-use am_types::{ActorId, Bytes, List, Meta, ValueRef};
+use am_fields::{NumberWriter, OwnedActors, TextWriter, columns_of};
+use am_types::{ActorId, Bytes, Meta, ValueRef, kinds};
 use am_values::ValueWriter;
 use std::alloc::{AllocError, Global};
 use std::marker::Model;
@@ -25,7 +25,7 @@ use std::marker::Model;
 /// were pushed, or None once memory was wanted: it is wanted from then on.
 #[derive(Drop)]
 pub struct MetaWriter {
-    actors: List<ActorId>,
+    actors: OwnedActors,
     columns: MetaColumns,
     failed: bool,
     alloc: Global,
@@ -93,9 +93,9 @@ impl MetaWriter {
             return Err(AllocError);
         }
         self.failed = true;
-        let place = place_in(self.actors.as_slice(), meta.actor);
+        let place = self.actors.lend().place(meta.actor);
         let extra = ValueRef {
-            kind: 7,
+            kind: kinds::BYTES,
             raw: meta.extra,
         };
         self.columns.actor.push(Some(place))?;

@@ -15,7 +15,9 @@ use crate::finished::columns_in;
 use crate::lent::RowFields;
 use crate::rows::RowCursor;
 use am_delta::DeltaWriter;
-use am_fields::{FieldWriter, Fields, IdWriter, NumberWriter, columns_of, place_in};
+use am_fields::{
+    FieldWriter, Fields, IdWriter, ListedActors, NumberWriter, OwnedActors, columns_of,
+};
 use am_types::{ActorId, Bytes, IdRef, List, OpId, Twin};
 use std::alloc::{AllocError, Global};
 use std::marker::Model;
@@ -24,7 +26,7 @@ use std::marker::Model;
 /// or None once memory was wanted: it is wanted from then on.
 #[derive(Drop)]
 pub struct RowWriter {
-    actors: List<ActorId>,
+    actors: OwnedActors,
     fields: FieldWriter,
     ids: IdWriter,
     lengths: NumberWriter,
@@ -47,21 +49,21 @@ impl Model for RowWriter {
 }
 
 // Copies actors.
-pub fn actors_in(alloc: Global, actors: &[ActorId]) -> Result<List<ActorId>, AllocError>
+pub fn actors_in(alloc: Global, actors: &[ActorId]) -> Result<OwnedActors, AllocError>
     ensures { IfOk result (λ copied. copied ≡ actors.now) }
 {
     let mut copied = List::new(alloc);
     for actor in actors {
         copied.push(actor.copy(alloc)?)?;
     }
-    Ok(copied)
+    Ok(OwnedActors::of(copied))
 }
 
 // Appends ids that are lent to the columns of places and of counters.
 fn push_lent_ids(
     places: &mut NumberWriter,
     counters: &mut DeltaWriter,
-    actors: &[ActorId],
+    actors: &ListedActors<'_>,
     ids: &[IdRef<'_>],
 ) -> Result<(), AllocError>
     requires places { IfSome places.old (λ xs. length xs + length ids.now ≤ 2 ^ 32) }
@@ -71,7 +73,7 @@ fn push_lent_ids(
     ensures counters { OnOk result (IfSome counters.old (λ xs. counters.new ≡ Some (xs ++ map (λ i. id_counter (id_of i)) ids.now))) }
 {
     for id in ids {
-        places.push(Some(place_in(actors, id.actor)))?;
+        places.push(Some(actors.place(id.actor)))?;
         counters.push(Some(id.counter as i64))?;
     }
     Ok(())
@@ -108,7 +110,7 @@ impl RowWriter {
             return Err(AllocError);
         }
         self.failed = true;
-        let actors = self.actors.as_slice();
+        let actors = self.actors.lend();
         let fields = Fields {
             obj: row.obj,
             key: row.key,
@@ -118,10 +120,10 @@ impl RowWriter {
             expand: row.expand,
             mark: row.mark,
         };
-        self.fields.push(actors, fields)?;
-        self.ids.push(actors, row.id)?;
+        self.fields.push(&actors, fields)?;
+        self.ids.push(&actors, row.id)?;
         self.lengths.push(Some(succs.len() as u64))?;
-        self.succs.push_all(actors, succs)?;
+        self.succs.push_all(&actors, succs)?;
         self.failed = false;
         Ok(())
     }
@@ -139,7 +141,7 @@ impl RowWriter {
             return Err(AllocError);
         }
         self.failed = true;
-        let actors = self.actors.as_slice();
+        let actors = self.actors.lend();
         let fields = Fields {
             obj: row.obj,
             key: row.key,
@@ -149,13 +151,13 @@ impl RowWriter {
             expand: row.expand,
             mark: row.mark,
         };
-        self.fields.push(actors, fields)?;
-        self.ids.push(actors, row.id)?;
+        self.fields.push(&actors, fields)?;
+        self.ids.push(&actors, row.id)?;
         self.lengths.push(Some(succs.len() as u64))?;
         push_lent_ids(
             &mut self.succs.places,
             &mut self.succs.counters,
-            actors,
+            &actors,
             succs,
         )?;
         self.failed = false;
@@ -183,7 +185,7 @@ impl RowWriter {
             &mut self.ids,
             &mut self.lengths,
             &mut self.succs,
-            self.actors.as_slice(),
+            &self.actors.lend(),
             n,
         )?;
         self.failed = false;
