@@ -10,7 +10,7 @@ ghost use Rattle.am_fits.specs.Facts.{Fact, fact_of};
 ghost use Rattle.am_fits.specs.Shown.{slot_shown, fact_shown};
 ghost use Rattle.am_fits.specs.Told.{inserts, gives_to};
 
-use am_types::{IdRef, Key, ObjId, ObjRef, Op, same_bytes, same_id, same_object};
+use am_types::{IdRef, Key, ObjId, ObjRef, Op, actions, same_bytes, same_id, same_object};
 
 /// A slot, borrowed.
 #[derive(Clone, Copy, Debug)]
@@ -81,7 +81,9 @@ pub(crate) fn gives_to(seen: Option<Seen<'_>>, object: ObjRef<'_>, slot: SlotRef
 {
     match seen {
         Some(seen) => {
-            seen.action != 3 && same_object(seen.object, object) && same_slot(seen.slot, slot)
+            seen.action != actions::DELETE
+                && same_object(seen.object, object)
+                && same_slot(seen.slot, slot)
         }
         None => false,
     }
@@ -92,9 +94,9 @@ pub(crate) fn takes(action: u8, key: &Key) -> bool
     ensures { result ≡ takes action key.now }
 {
     match key {
-        Key::Name(_) => action == 0 || action == 6,
-        Key::Head => action == 2 || action == 4,
-        Key::Elem(_) => action == 2 || action == 4,
+        Key::Name(_) => action == actions::MAKE_MAP || action == actions::MAKE_TABLE,
+        Key::Head => action == actions::MAKE_LIST || action == actions::MAKE_TEXT,
+        Key::Elem(_) => action == actions::MAKE_LIST || action == actions::MAKE_TEXT,
     }
 }
 

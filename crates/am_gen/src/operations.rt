@@ -3,7 +3,9 @@ ghost use Rattle.std.specs.Prelude.{◌≡◌, ◌≤◌, ◌%◌, IfOk};
 ghost use Rattle.am_gen.specs.Made.{op, change, makes_text, sets_counter, first, inserts, counts, set_before, sets, deletes, ends, in_round};
 
 use crate::parts::{actor, id, key, last, none, number, one, set_in, the_text, value};
-use am_types::{Bytes, Change, Hash, Key, List, ObjId, Op, OpId, RawValue, SharedActors, Text};
+use am_types::{
+    Bytes, Change, Hash, Key, List, ObjId, Op, OpId, RawValue, SharedActors, Text, actions, kinds,
+};
 use std::alloc::{AllocError, Global};
 
 // An operation that inserts nothing.
@@ -51,10 +53,22 @@ pub fn first(alloc: Global, actors: &mut SharedActors) -> Result<Change, AllocEr
     ensures { IfOk result (λ c. c ≡ first) }
 {
     let mut ops = List::new(alloc);
-    let nothing = value(alloc, 0, &[])?;
-    ops.push(op(ObjId::Root, key(alloc, "text")?, 4, nothing, none(alloc)))?;
-    let zero = value(alloc, 8, &[0])?;
-    ops.push(op(ObjId::Root, key(alloc, "n")?, 1, zero, none(alloc)))?;
+    let nothing = value(alloc, kinds::NULL, &[])?;
+    ops.push(op(
+        ObjId::Root,
+        key(alloc, "text")?,
+        actions::MAKE_TEXT,
+        nothing,
+        none(alloc),
+    ))?;
+    let zero = value(alloc, kinds::COUNTER, &[0])?;
+    ops.push(op(
+        ObjId::Root,
+        key(alloc, "n")?,
+        actions::SET,
+        zero,
+        none(alloc),
+    ))?;
     change(alloc, actors, List::new(alloc), 0, 1, 1, ops)
 }
 
@@ -92,8 +106,8 @@ fn inserts(
         obj: the_text(alloc, actors)?,
         key: place(alloc, actors, round, author)?,
         insert: true,
-        action: 1,
-        value: value(alloc, 6, &[letter])?,
+        action: actions::SET,
+        value: value(alloc, kinds::TEXT, &[letter])?,
         preds: none(alloc),
         expand: false,
         mark: None,
@@ -104,9 +118,15 @@ fn inserts(
 fn counts(alloc: Global, actors: &mut SharedActors) -> Result<Op, AllocError>
     ensures { IfOk result (λ op. op ≡ counts) }
 {
-    let amount = value(alloc, 4, &[1])?;
+    let amount = value(alloc, kinds::SIGNED, &[1])?;
     let preds = one(alloc, id(alloc, actors, 2, 0)?)?;
-    Ok(op(ObjId::Root, key(alloc, "n")?, 5, amount, preds))
+    Ok(op(
+        ObjId::Root,
+        key(alloc, "n")?,
+        actions::INCREMENT,
+        amount,
+        preds,
+    ))
 }
 
 // What was set before this round.
@@ -138,7 +158,7 @@ fn sets(alloc: Global, actors: &mut SharedActors, round: u64) -> Result<Op, Allo
     Ok(op(
         ObjId::Root,
         key(alloc, "k")?,
-        1,
+        actions::SET,
         number(alloc, round)?,
         preds,
     ))
@@ -160,8 +180,8 @@ fn deletes(
     Ok(op(
         the_text(alloc, actors)?,
         place,
-        3,
-        value(alloc, 0, &[])?,
+        actions::DELETE,
+        value(alloc, kinds::NULL, &[])?,
         preds,
     ))
 }

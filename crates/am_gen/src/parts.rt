@@ -5,7 +5,9 @@ ghost use Rattle.am_types.specs.declared.Key.TheVariants.{Name};
 ghost use Rattle.am_gen.specs.Made.{actor, id, value, the_text, set_in, last};
 
 use am_leb::push_u;
-use am_types::{ActorFault, ActorId, Bytes, Key, List, ObjId, OpId, RawValue, SharedActors, Text};
+use am_types::{
+    ActorFault, ActorId, Bytes, Key, List, ObjId, OpId, RawValue, SharedActors, Text, kinds,
+};
 use std::alloc::{AllocError, Global};
 
 /// The actor of this number. It is one of the actors that come again.
@@ -70,7 +72,7 @@ pub fn number(alloc: Global, n: u64) -> Result<RawValue, AllocError>
 {
     let mut bytes = Vec::new(alloc);
     push_u(&mut bytes, n)?;
-    value(alloc, 3, &bytes)
+    value(alloc, kinds::UNSIGNED, &bytes)
 }
 
 /// No ids.

@@ -8,8 +8,9 @@ ghost use Rattle.am_json.specs.Shown.{json_data};
 use crate::fault::JsonFault;
 use crate::form::Form;
 use crate::lent::Lent;
-use crate::nests::nests;
+use crate::nests::{DEEPEST, LEVELS, nests};
 use crate::shown::Shown;
+use am_types::actions::MAKE_MAP;
 use am_types::{Bytes, ObjRef};
 use std::alloc::Global;
 
@@ -20,7 +21,7 @@ pub fn written(alloc: Global, form: Form, entries: &[Lent<'_>]) -> Result<Bytes,
     ensures fits { IfOk result (λ _. depth (json_data form entries.now) ≤ 127) }
     ensures deep { result ≡ Err JsonFault.TooDeep → 127 < depth (json_data form entries.now) }
 {
-    if !nests(form, entries, ObjRef::Root, 0, 128, 127) {
+    if !nests(form, entries, ObjRef::Root, MAKE_MAP, LEVELS, DEEPEST) {
         return Err(JsonFault::TooDeep);
     }
     match serde_json::to_vec(alloc, &Shown::new(alloc, form, entries)) {

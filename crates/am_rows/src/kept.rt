@@ -9,6 +9,7 @@ ghost use Rattle.am_rows.specs.Lent.{kept_operation};
 ghost use Rattle.am_rows.specs.Making.{stays};
 
 use am_places::{Line, Numbered, Placed, compare_placed, placed_near};
+use am_types::actions::DELETE;
 use std::alloc::{AllocError, Global};
 use std::cmp::Ordering;
 
@@ -23,7 +24,7 @@ pub struct Kept<'a> {
 fn has_row(x: &Numbered<'_>) -> bool
     ensures { result ≡ stays (operation_of x.now) }
 {
-    x.op.action != 3
+    x.op.action != DELETE
 }
 
 /// The operations that have a row, beside the places of their slots, in ascending id.

@@ -8,7 +8,8 @@ ghost use Rattle.am_view.specs.Totals.{IsWithin};
 use crate::slots::slot_of;
 use am_doccols::RowCursor;
 use am_types::{
-    IdRef, KeyRef, ObjRef, ValueRef, compare_ids, same_id, same_key, same_object, slice_known,
+    IdRef, KeyRef, ObjRef, ValueRef, actions, compare_ids, same_id, same_key, same_object,
+    slice_known,
 };
 use am_values::amount_of;
 
@@ -78,7 +79,7 @@ impl<'a> Ahead<'a> {
         ensures bounded { IsWithin 1 result }
     {
         match self.first {
-            Some(first) if same_id(first.id, id) && first.action == 5 => {
+            Some(first) if same_id(first.id, id) && first.action == actions::INCREMENT => {
                 slice_known(first.value.raw);
                 Some(amount_of(first.value))
             }

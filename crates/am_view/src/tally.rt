@@ -13,7 +13,7 @@ use crate::ahead::Ahead;
 use crate::asked::Asked;
 use crate::slots::slot_of;
 use am_doccols::{RowCursor, RowRef, SuccCursor};
-use am_types::{EntryRef, slice_known};
+use am_types::{EntryRef, actions, kinds, slice_known};
 use am_values::amount_of;
 
 /// Whether one of the successors is covered.
@@ -71,14 +71,21 @@ pub fn tally<'a>(
 fn gives_entry(row: &RowRef<'_>) -> bool
     ensures { result ≡ gives_entry (row_of row.now) }
 {
-    matches!(row.action, 0 | 1 | 2 | 4 | 6)
+    matches!(
+        row.action,
+        actions::MAKE_MAP
+            | actions::SET
+            | actions::MAKE_LIST
+            | actions::MAKE_TEXT
+            | actions::MAKE_TABLE
+    )
 }
 
 // Whether the row sets a counter.
 fn is_counter(row: &RowRef<'_>) -> bool
     ensures { result ≡ is_counter_row (row_of row.now) }
 {
-    row.action == 1 && row.value.kind == 8
+    row.action == actions::SET && row.value.kind == kinds::COUNTER
 }
 
 // What a row stands at that gives an entry, where the rest of the rows stands behind it; None where something removes it.
