@@ -16,16 +16,42 @@ use crate::front::FrontRef;
 use crate::suffix::is_suffix;
 use am_change::HashList;
 use am_colmeta::ActorList;
-use am_doccols::{MetaCursor, RowCursor};
+use am_doccols::{MetaCursor, RowCursor, meta_specifications};
+use am_fields::specifications;
 use am_types::{Hash, LONGEST_ACTOR};
 use std::marker::Model;
 
 // The columns that change rows may have.
-const META_COLUMNS: [u64; 9] = [1, 3, 19, 35, 53, 64, 67, 86, 87];
+const META_COLUMNS: [u64; 9] = [
+    meta_specifications::AUTHOR,
+    meta_specifications::SEQ,
+    meta_specifications::MAX,
+    meta_specifications::TIME,
+    meta_specifications::MESSAGE,
+    meta_specifications::DEP_COUNT,
+    meta_specifications::DEP_INDEX,
+    meta_specifications::EXTRA_METADATA,
+    meta_specifications::EXTRA_RAW,
+];
 
 // The columns that operation rows may have.
 const ROW_COLUMNS: [u64; 16] = [
-    1, 2, 17, 19, 21, 33, 35, 52, 66, 86, 87, 128, 129, 131, 148, 165,
+    specifications::OBJECT_ACTOR,
+    specifications::OBJECT_COUNTER,
+    specifications::KEY_ACTOR,
+    specifications::KEY_COUNTER,
+    specifications::KEY_NAME,
+    specifications::ID_ACTOR,
+    specifications::ID_COUNTER,
+    specifications::INSERT,
+    specifications::ACTION,
+    specifications::VALUE_METADATA,
+    specifications::VALUE_RAW,
+    specifications::SUCC_COUNT,
+    specifications::SUCC_ACTOR,
+    specifications::SUCC_COUNTER,
+    specifications::EXPAND,
+    specifications::MARK,
 ];
 
 /// A document, lent from the contents of its chunk. A contract sees the table that they spell. Nothing is copied.

@@ -8,6 +8,7 @@ ghost use Rattle.am_merge.specs.Stacks.{stacked};
 
 use crate::starts::{Start, sort_starts};
 use am_places::Numbered;
+use am_types::actions::DELETE;
 use am_types::{Change, Key, compare_ids};
 use std::alloc::{AllocError, Global};
 use std::cmp::Ordering;
@@ -87,8 +88,8 @@ fn starts(x: &Numbered<'_>) -> bool
 {
     match &x.op.key {
         Key::Elem(_) => false,
-        Key::Name(_) => x.op.action != 3,
-        Key::Head => x.op.action != 3,
+        Key::Name(_) => x.op.action != DELETE,
+        Key::Head => x.op.action != DELETE,
     }
 }
 

@@ -12,6 +12,7 @@ ghost use Rattle.am_merge.specs.declared.naming.Naming.{Naming as ANaming};
 
 use crate::guide::Guide;
 use am_places::Numbered;
+use am_types::actions::DELETE;
 use am_types::{IdRef, Key, ObjRef, compare_actors, compare_objects};
 use std::alloc::{AllocError, Global};
 use std::cmp::Ordering;
@@ -96,7 +97,7 @@ fn push_value<'a>(all: &mut Vec<Naming<'a>>, x: Numbered<'a>) -> Result<(), Allo
     if x.op.insert {
         return Ok(());
     }
-    if x.op.action == 3 {
+    if x.op.action == DELETE {
         return Ok(());
     }
     push_reference(all, x)

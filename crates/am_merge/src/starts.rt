@@ -14,7 +14,8 @@ use std::alloc::AllocError;
 use std::cmp::Ordering;
 use std::marker::Model;
 
-/// An operation beside what mostly decides where it starts, so that nothing else is read of it. Contracts see the operation.
+/// An operation beside what mostly decides where it starts, so that mostly nothing else is read of it. Contracts see the
+/// operation.
 #[derive(Drop)]
 pub struct Start<'a> {
     operation: Numbered<'a>,

@@ -69,6 +69,20 @@ fn answer(gathered: Gathered, judgement: Judgement) -> Result<Rebuilt, RebuildFa
     }
 }
 
+// The same as `rebuild_whole`, of a document that is lent.
+fn rebuilt_from(alloc: Global, doc: &DocRef<'_>) -> Result<Rebuilt, RebuildFault>
+    ensures judged { Rebuilds doc.now (changes_rebuilt result) }
+    ensures own_hashes { IfOk result (λ r. AreOwn (vec_items r.entries)) }
+    ensures may_come { IfOk result (λ r. All MayCome (members_of (vec_items r.entries))) }
+    ensures of_set { IfOk result (λ r. AreOf (members_of (vec_items r.entries)) r.graph r.index) }
+    ensures valid { IfOk result (λ r. Valid (members_of (vec_items r.entries))) }
+{
+    doc.is_spelled();
+    spelled_tables_are_sound();
+    let (gathered, judgement) = judged_in(alloc, doc)?;
+    answer(gathered, judgement)
+}
+
 /// The changes of which a document tells, each behind its own hash, in the order of its change rows, with the graph and the
 /// index that were built of them. Refused as `rebuild` is.
 pub fn rebuild_whole(alloc: Global, doc: DocRef<'_>) -> Result<Rebuilt, RebuildFault>
@@ -78,10 +92,7 @@ pub fn rebuild_whole(alloc: Global, doc: DocRef<'_>) -> Result<Rebuilt, RebuildF
     ensures of_set { IfOk result (λ r. AreOf (members_of (vec_items r.entries)) r.graph r.index) }
     ensures valid { IfOk result (λ r. Valid (members_of (vec_items r.entries))) }
 {
-    doc.is_spelled();
-    spelled_tables_are_sound();
-    let (gathered, judgement) = judged_in(alloc, &doc)?;
-    answer(gathered, judgement)
+    rebuilt_from(alloc, &doc)
 }
 
 // The changes, each behind its own hash, without the graph and the index.

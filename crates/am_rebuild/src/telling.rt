@@ -8,10 +8,10 @@ ghost use Rattle.am_types.specs.Views.{id_of};
 ghost use Rattle.am_rebuild.specs.Mentions.{AreSortedMentions};
 ghost use Rattle.am_rebuild.specs.Told.{is_last, ids_behind, differ_from, TellsIds};
 
-use crate::group::DELETION;
 use crate::lent::LentRow;
 use crate::mention::Named;
 use crate::order::lent_in_order;
+use am_types::actions::DELETE;
 use am_types::{IdRef, compare_ids, same_id};
 use std::alloc::{AllocError, Global};
 use std::cmp::Ordering;
@@ -79,7 +79,7 @@ fn succs_ascend(row: &LentRow<'_>) -> bool
 fn is_kept(row: &LentRow<'_>) -> bool
     ensures { IsTrue result ↔ ((row.now.action ≢ actions.del) × Ascends id_cmp row.now.succs) }
 {
-    row.action != DELETION && succs_ascend(row)
+    row.action != DELETE && succs_ascend(row)
 }
 
 fn are_kept(rows: &[LentRow<'_>]) -> bool

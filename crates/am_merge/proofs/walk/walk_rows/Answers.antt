@@ -41,6 +41,23 @@ rows-preserved c =
           ∙ c.copy_unnamed-in-Some.ensures.same A c.args.tables.now t (subst (AreCounters c.args.tables.now) (sym c.as_slice-counters.ensures.value) c.in_ok-named.ensures);
     }
 
+pub rows-preserved-in_ok-pass_row : goal.rows-preserved-in_ok-pass_row
+rows-preserved-in_ok-pass_row c =
+    let r = row_of c.in-Some.row in
+    let next = c.in-Some.ensures.next in
+    record {
+      few = omega (arith, ap length next, c.rows.invariant.few, c.in_ok-put_before.ensures.few, c.in_ok-pass_row.ensures.few, c.copy_unnamed-in-Some.ensures.few);
+      same = λ A t.
+          let named = c.args.tables.now.named.items in
+          let h = c.in_ok-pass_row.ensures.passed A t (subst (AreCounters c.args.tables.now) (sym c.as_slice-counters.ensures.value) c.in_ok-named.ensures) r c.spot_of-at.ensures in
+          c.rows.invariant.same A t
+          ∙ ap (λ rs. done_in named c.rows.walk ++ walked A rs c.rows.walk.left (waiting_of c.rows.walk)) next
+          ∙ row_passes A named r c.next.new.self c.rows.walk c.put_before.new.walk c.pass_row.new.walk
+          (c.in_ok-put_before.ensures.before A t r c.spot_of-at.ensures (walked A c.next.new.self))
+          h.events h.waiting c.in_ok-pass_row.ensures.left
+          ∙ c.copy_unnamed-in-Some.ensures.same A c.args.tables.now t (subst (AreCounters c.args.tables.now) (sym c.as_slice-counters.ensures.value) c.in_ok-named.ensures);
+    }
+
 pub rows-smaller : goal.rows-smaller
 rows-smaller c = omega (arith, ap length c.in-Some.ensures.next, c.copy_unnamed-in-Some.ensures.left)
 
