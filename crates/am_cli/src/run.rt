@@ -178,6 +178,8 @@ mod failing;
 #[cfg(test)]
 mod forms;
 #[cfg(test)]
+mod letters;
+#[cfg(test)]
 mod limits;
 #[cfg(test)]
 mod memory;

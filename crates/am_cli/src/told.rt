@@ -23,12 +23,13 @@ impl fmt::Display for Status {
                 "all commands were carried out, and a reply refuses",
             ),
             Status::BadWords => f.write_str(
-                "the words must be one of: run < SCRIPT | show FILE [HASH ..] | check FILE | normalize IN OUT | history FILE. \
+                "the words must be one of: run < SCRIPT | show FILE [HASH ..] | check FILE | normalize IN OUT | history FILE, \
+                 where a HASH is 64 hexadecimal digits and no name has a space. \
                  The manual page is amstore(1), in a clone docs/amstore.1",
             ),
             Status::InputFault => f.write_str("standard input can't be read. No command was begun"),
             Status::FileFault => f.write_str(
-                "the file of the command behind the last reply can't be read or kept. No later command was begun",
+                "the file of the first command without a reply can't be read or kept. No later command was begun",
             ),
             Status::OutputFault => f.write_str(
                 "standard output can't be written. No later command was begun",

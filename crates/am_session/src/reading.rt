@@ -41,26 +41,30 @@ pub fn finished(alloc: Global, maker: LentJsonMaker<'_>) -> Result<Bytes, AllocE
 }
 
 // The entries that are handed out, pushed as they come.
-fn pushed<'a>(alloc: Global, form: Form, shown: Shown<'a>) -> Result<LentJsonMaker<'a>, AllocError>
-    requires { IsInOrder shown }
+fn pushed<'a>(
+    alloc: Global,
+    form: Form,
+    shown: &mut Shown<'a>,
+) -> Result<LentJsonMaker<'a>, AllocError>
+    requires { IsInOrder shown.old }
     ensures form { IfOk result (λ maker. maker.form ≡ form) }
-    ensures entries { IfOk result (λ maker. maker.entries ≡ shown.entry) }
+    ensures entries { IfOk result (λ maker. maker.entries ≡ shown.old) }
 {
     order_front();
     let mut maker = LentJsonMaker::new(alloc, form);
-    let mut rest = shown;
-    while let Some(entry) = rest.next() {
+    while let Some(entry) = shown.next() {
         maker.push(entry)?;
     }
     Ok(maker)
 }
 
-// The reply with the text of the entries that are handed out.
+// The reply with the text of the entries that are handed out. (They come from a box, which is let go by a function of its own.)
 fn print(alloc: Global, form: Form, shown: Shown<'_>) -> Result<Bytes, AllocError>
     requires { IsInOrder shown }
     ensures { IfOk result (λ reply. reply ≡ printed (json_data form shown.entry)) }
 {
-    let maker = pushed(alloc, form, shown)?;
+    let mut boxed = Box::new(alloc, shown)?;
+    let maker = pushed(alloc, form, &mut boxed)?;
     finished(alloc, maker)
 }
 

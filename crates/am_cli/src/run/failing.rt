@@ -29,7 +29,13 @@ struct Case {
     status: Status,
 }
 
-const CASES: [Case; 11] = [
+// Lists two files, of which only the first is there.
+const LISTS: &str = "frames A1\nframes nosuch\n";
+
+const LISTED: &str =
+    "ok 1\nchange 32 d99aa04d2627b06462ea181e063a2e07e16255c088d1fe97ecf9c964cfa6ce32\n";
+
+const CASES: [Case; 15] = [
     Case {
         script: KEEPS,
         most: WHOLE,
@@ -114,7 +120,39 @@ const CASES: [Case; 11] = [
         script: READS,
         most: WHOLE,
         failing: [NEVER, NEVER, 1],
-        written: "ok 1\nchange 32 d99aa04d2627b06462ea181e063a2e07e16255c088d1fe97ecf9c964cfa6ce32\n",
+        written: LISTED,
+        kept: None,
+        status: Status::OutputFault,
+    },
+    Case {
+        script: LISTS,
+        most: WHOLE,
+        failing: [0, NEVER, NEVER],
+        written: "",
+        kept: None,
+        status: Status::InputFault,
+    },
+    Case {
+        script: LISTS,
+        most: WHOLE,
+        failing: [NEVER, 0, NEVER],
+        written: "",
+        kept: None,
+        status: Status::FileFault,
+    },
+    Case {
+        script: LISTS,
+        most: WHOLE,
+        failing: [NEVER, 1, NEVER],
+        written: LISTED,
+        kept: None,
+        status: Status::FileFault,
+    },
+    Case {
+        script: LISTS,
+        most: WHOLE,
+        failing: [NEVER, NEVER, 1],
+        written: LISTED,
         kept: None,
         status: Status::OutputFault,
     },
