@@ -76,6 +76,22 @@ fn reads_the_columns_of_a_change(rt: HostRuntime) {
 }
 
 #[test]
+fn takes_off_one_column_after_another(rt: HostRuntime) {
+    let (list, _) = ColumnList::read(&METADATA).expect(&rt, "the metadata can be read");
+    let mut columns = Columns::over(list, &BODY, &KNOWN).expect(&rt, "the columns fill the body");
+    let mut rest = &BODY[..];
+    for specification in KNOWN {
+        let (told, column) = columns.next().expect(&rt, "there is a column more");
+        assert!(rt; told == specification);
+        assert!(rt; rest.starts_with(column));
+        let (_, more) = rest.split_at(column.len());
+        rest = more;
+    }
+    assert!(rt; rest.is_empty());
+    assert!(rt; columns.next().is_none());
+}
+
+#[test]
 fn refuses_metadata_that_are_cut_off(rt: HostRuntime) {
     assert!(rt; ColumnList::read(&METADATA[..15]).is_err());
     assert!(rt; ColumnList::read(&[]).is_err());

@@ -14,6 +14,8 @@ mod leb;
 #[cfg(test)]
 mod lent;
 #[cfg(test)]
+mod listed;
+#[cfg(test)]
 mod outside;
 #[cfg(test)]
 mod runs;

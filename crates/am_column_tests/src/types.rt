@@ -1,7 +1,8 @@
 //! Each call once: what is built, lent, compared and copied is what was put in.
 use am_types::{
     ActorFault, ActorId, Bytes, Change, Document, Entry, Hash, IdRef, Key, KeyRef, List, Meta,
-    ObjId, ObjRef, Op, OpId, RawValue, Row, Table, Text, Twin, compare_ids,
+    ObjId, ObjRef, Op, OpId, RawValue, Row, Table, Text, Twin, compare_bytes, compare_ids,
+    same_bytes,
 };
 use std::alloc::{AllocError, Global};
 use std::cmp::Ordering;
@@ -157,6 +158,36 @@ fn ids_go_by_counter_then_actor(rt: HostRuntime) {
             actor: other_actor,
         };
         assert_eq!(rt; compare_ids(a, b), order);
+    }
+}
+
+#[test]
+fn bytes_go_by_the_first_that_differs(rt: HostRuntime) {
+    let table: &[(&[u8], &[u8], Ordering)] = &[
+        (b"", b"", Ordering::Equal),
+        (b"a", b"ab", Ordering::Less),
+        (b"b", b"ab", Ordering::Greater),
+        (b"just as an actor", b"just as an actor", Ordering::Equal),
+        (b"just as an actor", b"just as an actos", Ordering::Less),
+        (
+            b"these are more than thirty-two bytes",
+            b"these are more than thirty-two bytes",
+            Ordering::Equal,
+        ),
+        (
+            b"these are more than thirty-two bytes",
+            b"these are more than thirty-two byte",
+            Ordering::Greater,
+        ),
+        (
+            b"these are more than thirty-two bytes: a",
+            b"these are more than thirty-two bytes: b",
+            Ordering::Less,
+        ),
+    ];
+    for &(a, b, order) in table {
+        assert_eq!(rt; compare_bytes(a, b), order);
+        assert_eq!(rt; same_bytes(a, b), order.is_eq());
     }
 }
 

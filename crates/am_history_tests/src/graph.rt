@@ -61,12 +61,12 @@ const ANCESTORS: &[u8] = &[1, 2, 5, 9];
 
 const MERGE: &[Hash] = &[Hash([1; 32])];
 
-/// Whether a counter of an actor is covered where the merge is, and the actor's last seq there.
-const COVERED: &[(u64, &[u8], (bool, u64))] = &[
-    (5, AA, (true, 3)),
-    (6, AA, (false, 3)),
-    (4, BB, (true, 1)),
-    (1, CC, (false, 0)),
+/// Whether a counter of an actor is covered where the merge is, the actor's last seq there, and where its counters end.
+const COVERED: &[(u64, &[u8], (bool, u64, u64))] = &[
+    (5, AA, (true, 3, 6)),
+    (6, AA, (false, 3, 6)),
+    (4, BB, (true, 1, 5)),
+    (1, CC, (false, 0, 0)),
 ];
 
 /// A change on both branches of the long graph.
@@ -218,11 +218,19 @@ fn tells_how_far_actors_go(rt: &impl Abort, alloc: Global, graph: &Graph) -> Res
 }
 
 /// What a clock says, and what one of a lent graph.
-fn covered(alloc: Global, graph: &Graph, id: IdRef<'_>) -> Result<[(bool, u64); 2], Fail> {
+fn covered(alloc: Global, graph: &Graph, id: IdRef<'_>) -> Result<[(bool, u64, u64); 2], Fail> {
     let clock = graph.clock(alloc, MERGE)?;
     let reached = graph.reached(alloc, MERGE)?;
-    let clock = (clock.covers(id), clock.last_seq(id.actor));
-    let reached = (reached.covers(id), reached.last_seq(id.actor));
+    let clock = (
+        clock.covers(id),
+        clock.last_seq(id.actor),
+        clock.end(id.actor),
+    );
+    let reached = (
+        reached.covers(id),
+        reached.last_seq(id.actor),
+        reached.end(id.actor),
+    );
     Ok([clock, reached])
 }
 
