@@ -28,22 +28,24 @@ pub fn columns_in(
     let (id_places, id_counters) = ids.finish()?;
     let lengths = lengths.finish()?;
     let (succ_places, succ_counters) = succs.finish()?;
-    let mut columns = Vec::new(alloc);
-    columns.push((specifications::OBJECT_ACTOR, fields.object_actor))?;
-    columns.push((specifications::OBJECT_COUNTER, fields.object_counter))?;
-    columns.push((specifications::KEY_ACTOR, fields.key_actor))?;
-    columns.push((specifications::KEY_COUNTER, fields.key_counter))?;
-    columns.push((specifications::KEY_NAME, fields.key_name))?;
-    columns.push((specifications::ID_ACTOR, id_places))?;
-    columns.push((specifications::ID_COUNTER, id_counters))?;
-    columns.push((specifications::INSERT, fields.insert))?;
-    columns.push((specifications::ACTION, fields.action))?;
-    columns.push((specifications::VALUE_METADATA, fields.numbers))?;
-    columns.push((specifications::VALUE_RAW, fields.raw))?;
-    columns.push((specifications::SUCC_COUNT, lengths))?;
-    columns.push((specifications::SUCC_ACTOR, succ_places))?;
-    columns.push((specifications::SUCC_COUNTER, succ_counters))?;
-    columns.push((specifications::EXPAND, fields.expand))?;
-    columns.push((specifications::MARK, fields.mark))?;
+    // (at once, so that no column is let go between two others)
+    let columns = vec![in alloc;
+        (specifications::OBJECT_ACTOR, fields.object_actor),
+        (specifications::OBJECT_COUNTER, fields.object_counter),
+        (specifications::KEY_ACTOR, fields.key_actor),
+        (specifications::KEY_COUNTER, fields.key_counter),
+        (specifications::KEY_NAME, fields.key_name),
+        (specifications::ID_ACTOR, id_places),
+        (specifications::ID_COUNTER, id_counters),
+        (specifications::INSERT, fields.insert),
+        (specifications::ACTION, fields.action),
+        (specifications::VALUE_METADATA, fields.numbers),
+        (specifications::VALUE_RAW, fields.raw),
+        (specifications::SUCC_COUNT, lengths),
+        (specifications::SUCC_ACTOR, succ_places),
+        (specifications::SUCC_COUNTER, succ_counters),
+        (specifications::EXPAND, fields.expand),
+        (specifications::MARK, fields.mark),
+    ]?;
     Ok(columns)
 }

@@ -18,16 +18,25 @@ pub fn meta_columns_in(alloc: Global, w: MetaColumns) -> Result<Vec<(u64, Bytes)
     requires lengths { IsShort w.lengths }
     ensures { IfOk result (λ columns. (actors : List (List ℕ)) (metas : List Meta) → MetasHeld actors metas w → columns.items ≡ spellings actors (meta_columns metas)) }
 {
-    let mut columns = Vec::new(alloc);
-    columns.push((meta_specifications::AUTHOR, w.actor.finish()?))?;
-    columns.push((meta_specifications::SEQ, w.seq.finish()?))?;
-    columns.push((meta_specifications::MAX, w.max.finish()?))?;
-    columns.push((meta_specifications::TIME, w.time.finish()?))?;
-    columns.push((meta_specifications::MESSAGE, w.message.finish()?))?;
-    columns.push((meta_specifications::DEP_COUNT, w.lengths.finish()?))?;
-    columns.push((meta_specifications::DEP_INDEX, w.deps.finish()?))?;
+    let actor = w.actor.finish()?;
+    let seq = w.seq.finish()?;
+    let max = w.max.finish()?;
+    let time = w.time.finish()?;
+    let message = w.message.finish()?;
+    let lengths = w.lengths.finish()?;
+    let deps = w.deps.finish()?;
     let (numbers, raw) = w.extra.finish()?;
-    columns.push((meta_specifications::EXTRA_METADATA, numbers))?;
-    columns.push((meta_specifications::EXTRA_RAW, raw))?;
+    // (at once, so that no column is let go between two others)
+    let columns = vec![in alloc;
+        (meta_specifications::AUTHOR, actor),
+        (meta_specifications::SEQ, seq),
+        (meta_specifications::MAX, max),
+        (meta_specifications::TIME, time),
+        (meta_specifications::MESSAGE, message),
+        (meta_specifications::DEP_COUNT, lengths),
+        (meta_specifications::DEP_INDEX, deps),
+        (meta_specifications::EXTRA_METADATA, numbers),
+        (meta_specifications::EXTRA_RAW, raw),
+    ]?;
     Ok(columns)
 }

@@ -1,5 +1,5 @@
 //! The walk over the rows of a cursor.
-ghost use Rattle.std.specs.Prelude.{◌≡◌, ◌≤◌, ◌<◌, ◌+◌, ◌^◌, ◌++◌, List, length, OnOk};
+ghost use Rattle.std.specs.Prelude.{◌≡◌, ◌≤◌, ◌<◌, ◌+◌, ◌^◌, ◌++◌, ◌∷◌, [], List, length, OnOk, IfSome, IfNone};
 ghost use Rattle.std.specs.List.Sorted.{IsSorted};
 ghost use Rattle.std.specs.Ordering.{nat_cmp};
 ghost use Rattle.am_types.specs.Operations.{Operation};
@@ -67,6 +67,37 @@ fn pass_row<'a>(
     Ok(())
 }
 
+// The spot of the next row, which is passed.
+fn next_spot<'a>(rest: &mut RowCursor<'a>) -> Option<SpotRef<'a>>
+    ensures end { IfNone result (rest.old ≡ []) }
+    ensures next { IfSome result (λ spot. (r : Row) × (rest.old ≡ r ∷ rest.new) × (spot_of_row r ≡ spot_in spot)) }
+{
+    let row = rest.next()?;
+    Some(spot_of(&row))
+}
+
+// Walks over the rows that are left. At most `left` operations come.
+fn walk_rest<'a>(
+    walk: &mut Walk<'a>,
+    tables: &Tables<'a>,
+    counters: &[u64],
+    rest: &mut RowCursor<'_>,
+) -> Result<(), AllocError>
+    requires ascend { IsSorted nat_cmp counters.now }
+    requires few { walk.old.skipped + length rest.old < 2 ^ 63 }
+    ensures { OnOk result ((A : List Operation) → AreTables A tables.now → AreCounters tables.now counters.now
+        → done_in tables.now.named.items walk.new ≡ done_in tables.now.named.items walk.old ++ walked A rest.old walk.old.left (waiting_of walk.old)) }
+{
+    copy_unnamed(walk, rest, counters);
+    'rows: while let Some(at) = next_spot(rest) {
+        put_before(walk, tables, &at)?;
+        pass_row(walk, tables, counters, &at)?;
+        copy_unnamed(walk, rest, counters);
+    }
+    put_rest(walk, tables)?;
+    Ok(())
+}
+
 /// Walks over the rows. At most `left` operations come.
 pub fn walk_rows<'a>(
     alloc: Global,
@@ -79,15 +110,6 @@ pub fn walk_rows<'a>(
         → done_in tables.now.named.items walk.new ≡ done_in tables.now.named.items walk.old ++ walked A rows.now walk.old.left (waiting_of walk.old)) }
 {
     let named = counters_of(alloc, tables)?;
-    let counters = named.as_slice();
     let mut rest = rows.again();
-    copy_unnamed(walk, &mut rest, counters);
-    'rows: while let Some(row) = rest.next() {
-        let at = spot_of(&row);
-        put_before(walk, tables, &at)?;
-        pass_row(walk, tables, counters, &at)?;
-        copy_unnamed(walk, &mut rest, counters);
-    }
-    put_rest(walk, tables)?;
-    Ok(())
+    walk_rest(walk, tables, named.as_slice(), &mut rest)
 }

@@ -1,4 +1,4 @@
-use Rattle.std.proofs.Common.{Some, ◌∙◌, map, length, arith}
+use Rattle.std.proofs.Common.{Some, [], refl, ◌∙◌, map, length, arith}
 use Rattle.std.proofs.lemmas.List.{length-map}
 use Rattle.am_fields.specs.Columns.{Deltas, Actors, Raw, Counts, Times, Messages, Extras}
 use Rattle.am_fields.specs.Extras.{extra_value}
@@ -14,14 +14,14 @@ returns c actors metas h =
     let few = h.few in
     let few_deps = h.few_deps in
     let values = values_canonical _ _ _ _ h.extra_are (extras_good actors metas h.all) (omega (arith, length-map extras extra_value, length-map metas (λ m. m.extra))) c.in_ok-numbers.ensures.ok in
-    let p = none_spelled actors _ c.new-columns.ensures.items in
-    let p = put 1 (Actors (map Some (map (λ m. m.actor) metas))) p c.in_ok-push.ensures.items (numbers_canonical _ _ _ h.actor_are c.in_ok-finish.ensures.ok) in
-    let p = put 3 (Deltas (map whole (map (λ m. m.seq) metas))) p c.in_ok-push-2.ensures.items (deltas_canonical _ _ _ h.seq_are (seqs_middling actors metas h.all) (omega (arith, length-map (map (λ m. m.seq) metas) whole, length-map metas (λ m. m.seq))) c.in_ok-finish-2.ensures.ok) in
-    let p = put 19 (Deltas (map whole (map (λ m. m.max) metas))) p c.in_ok-push-3.ensures.items (deltas_canonical _ _ _ h.max_are (maxes_middling actors metas h.all) (omega (arith, length-map (map (λ m. m.max) metas) whole, length-map metas (λ m. m.max))) c.in_ok-finish-3.ensures.ok) in
-    let p = put 35 (Times (map (λ m. m.time) metas)) p c.in_ok-push-4.ensures.items (deltas_canonical _ _ _ h.time_are (times_middling actors metas h.all) (omega (arith, length-map (map (λ m. m.time) metas) Some, length-map metas (λ m. m.time))) c.in_ok-finish-4.ensures.ok) in
-    let p = put 53 (Messages (map (λ m. m.message) metas)) p c.in_ok-push-5.ensures.items (texts_canonical _ _ _ h.message_are c.in_ok-finish-5.ensures.ok) in
-    let p = put 64 (Counts (map length (map (λ m. m.deps) metas))) p c.in_ok-push-6.ensures.items (numbers_canonical _ _ _ h.lengths_are c.in_ok-finish-6.ensures.ok) in
-    let p = put 67 (Deltas (map whole deps)) p c.in_ok-push-7.ensures.items (deltas_canonical _ _ _ h.deps_are (deps_middling actors metas h.all) (omega (arith, length-map deps whole)) c.in_ok-finish-7.ensures.ok) in
-    let p = put 86 (Extras extras) p c.in_ok-push-8.ensures.items values.0 in
-    let p = put 87 (Raw (flat extras)) p c.in_ok-push-9.ensures.items (values.1 ∙ joined-extras extras) in
-    p.is
+    let p = none_spelled actors [] refl in
+    let p = put 1 (Actors (map Some (map (λ m. m.actor) metas))) p refl (numbers_canonical _ _ _ h.actor_are c.in_ok-actor.ensures.ok) in
+    let p = put 3 (Deltas (map whole (map (λ m. m.seq) metas))) p refl (deltas_canonical _ _ _ h.seq_are (seqs_middling actors metas h.all) (omega (arith, length-map (map (λ m. m.seq) metas) whole, length-map metas (λ m. m.seq))) c.in_ok-seq.ensures.ok) in
+    let p = put 19 (Deltas (map whole (map (λ m. m.max) metas))) p refl (deltas_canonical _ _ _ h.max_are (maxes_middling actors metas h.all) (omega (arith, length-map (map (λ m. m.max) metas) whole, length-map metas (λ m. m.max))) c.in_ok-max.ensures.ok) in
+    let p = put 35 (Times (map (λ m. m.time) metas)) p refl (deltas_canonical _ _ _ h.time_are (times_middling actors metas h.all) (omega (arith, length-map (map (λ m. m.time) metas) Some, length-map metas (λ m. m.time))) c.in_ok-time.ensures.ok) in
+    let p = put 53 (Messages (map (λ m. m.message) metas)) p refl (texts_canonical _ _ _ h.message_are c.in_ok-message.ensures.ok) in
+    let p = put 64 (Counts (map length (map (λ m. m.deps) metas))) p refl (numbers_canonical _ _ _ h.lengths_are c.in_ok-lengths.ensures.ok) in
+    let p = put 67 (Deltas (map whole deps)) p refl (deltas_canonical _ _ _ h.deps_are (deps_middling actors metas h.all) (omega (arith, length-map deps whole)) c.in_ok-deps.ensures.ok) in
+    let p = put 86 (Extras extras) p refl values.0 in
+    let p = put 87 (Raw (flat extras)) p refl (values.1 ∙ joined-extras extras) in
+    c.in_ok-columns.ensures.items ∙ p.is
