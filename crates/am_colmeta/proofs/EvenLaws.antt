@@ -1,13 +1,12 @@
 -- Lists of actors that take as many bytes each are cut at any place.
 --     even_from        actors as long as the first, behind it, are even
---     even_rest        what stands behind the first is
 --     even_behind      where so many are left out, the others stand there
 --     got              the first of those that are left is the one at that place
 use Rattle.std.proofs.Common.{◌≡◌, Bor, ℕ, suc, zero, ◌+◌, ◌-◌, ◌*◌, ◌<◌, ◌≤◌, List, [], ◌∷◌, ◌++◌, length, drop, Option, Some, None, IsSome, refl, sym, ap, ◌∙◌, subst, arith, append_assoc, length-append}
 use Rattle.std.specs.Prelude.{slice_get, IfNone, IfSome}
 use Rattle.std.specs.Option.{option_copied}
 use Rattle.std.specs.List.{flat_map, AllByRecursion}
-use Rattle.std.proofs.lemmas.List.{drop_at, length-drop}
+use Rattle.std.proofs.lemmas.List.{length-drop}
 use Rattle.am_leb.specs.Leb.{uleb}
 use Rattle.am_leb.proofs.Answering.{IsBytes}
 use Rattle.am_colmeta.specs.Actors.{prefixed, IsPrefixed}
@@ -27,9 +26,6 @@ as_long first (a ∷ others) all = (same a all.0, as_long first others all.1)
 
 pub even_from : (size : ℕ) (first : List ℕ) (others : List (List ℕ)) → size ≡ length (prefixed first) → AllByRecursion (λ a. length a ≡ length first) others → AreEven size (first ∷ others)
 even_from size first others e all = λ some. subst (λ n. AllByRecursion (λ a. length (prefixed a) ≡ n) (first ∷ others)) (sym e) (refl, as_long first others all)
-
-pub even_rest : (size : ℕ) (first : List ℕ) (others : List (List ℕ)) → AreEven size (first ∷ others) → AreEven size others
-even_rest size first others even = λ some. (even some).1
 
 all_behind : {A : Type 0} (P : A → Type 0) (n : ℕ) (xs : List A) → AllByRecursion P xs → AllByRecursion P (drop n xs)
 all_behind P zero xs all = all

@@ -126,3 +126,25 @@ fn reads_a_list_of_actors(rt: HostRuntime) {
     assert!(rt; actors.get(2).is_none());
     assert!(rt; ActorList::read(&bytes[..5]).is_err());
 }
+
+#[test]
+fn leaves_out_actors(rt: HostRuntime) {
+    // The actors of the first list take as many bytes each, those of the second don't.
+    let lists: &[&[u8]] = &[
+        &[0x03, 0x01, 0xaa, 0x01, 0xbb, 0x01, 0xcc],
+        &[0x03, 0x01, 0xaa, 0x02, 0xbb, 0xbb, 0x01, 0xcc],
+    ];
+    for &bytes in lists {
+        let (actors, size) = ActorList::read(bytes).expect(&rt, "the actors can be read");
+        assert!(rt; size == bytes.len());
+        let mut rest = actors.again();
+        rest.skip(2);
+        assert!(rt; rest.next() == Some(&[0xcc][..]));
+        assert!(rt; rest.next().is_none());
+        let mut none = actors.again();
+        none.skip(4);
+        assert!(rt; none.count() == 0);
+        assert!(rt; actors.get(2) == Some(&[0xcc][..]));
+        assert!(rt; actors.get(3).is_none());
+    }
+}
