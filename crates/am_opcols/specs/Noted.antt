@@ -1,5 +1,6 @@
 -- Actors that are noted as they are met.
---     Notes author xs old new     to the old ones those of xs other than the author were noted, each at least once
+--     Notes author xs old new     the new ones are the old ones and those of xs other than the author, in any order, each at
+--                                 least once
 use Rattle.std.specs.Prelude.{◌≡◌, ◌≢◌, ◌⊎◌, ℕ, List}
 use Rattle.am_fields.specs.Actors.{IsListed}
 

@@ -1,5 +1,5 @@
-//! Whether columns that were read are the canonical ones of their operations. It takes no memory.
-ghost use Rattle.std.specs.Prelude.{◌≡◌, ◌↔◌, ◌∷◌, [], IsTrue, IfOk};
+//! Whether columns that were read are the canonical ones of their operations.
+ghost use Rattle.std.specs.Prelude.{◌≡◌, ◌↔◌, ◌≤◌, ◌∷◌, [], length, IsTrue, IfOk, OnErr};
 ghost use Rattle.am_colmeta.specs.Metadata.{listing, Ascend};
 ghost use Rattle.am_colmeta.specs.Judgement.{AreKnown};
 ghost use Rattle.am_opcols.specs.Columns.{op_specifications, SpellsOps};
@@ -82,7 +82,7 @@ impl<'a> OpColumns<'a> {
     }
 
     /// The same of operations that are owned. Where there are few other actors, each costs a walk to the first operation
-    /// that names it; else those that operations name are gathered and sorted.
+    /// that names it; else those that operations name are gathered and sorted, and AllocError says that memory was wanting.
     pub fn are_canonical_of(
         &self,
         alloc: Global,
@@ -93,7 +93,8 @@ impl<'a> OpColumns<'a> {
         requires spelled { SpellsOps (author.now ∷ others.now) self.now ops.now }
         requires ascend { Ascend (listing self.now) }
         requires known { AreKnown op_specifications (listing self.now) }
-        ensures { IfOk result (λ canonical. IsTrue canonical ↔ ((others.now ≡ others_of author.now ops.now) × (self.now ≡ written_columns author.now ops.now))) }
+        ensures judged { IfOk result (λ canonical. IsTrue canonical ↔ ((others.now ≡ others_of author.now ops.now) × (self.now ≡ written_columns author.now ops.now))) }
+        ensures few { length others.now ≤ 64 → OnErr result ⊥ }
     {
         if !are_plain(self, author, others) {
             return Ok(false);

@@ -4,24 +4,24 @@ use Rattle.am_opcols.proofs.CanonicalRead.{tested, untested}
 use Rattle.am_opcols.proofs.ListedLaws.{others_are_named}
 use Rattle.am_opcols.proofs.found.OpColumns.are_canonical_of.Goals as goal
 
-pub returns-then-not-are_plain : goal.returns-then-not-are_plain
-returns-then-not-are_plain c = (
+pub returns-then-not-are_plain-clause-judged : goal.returns-then-not-are_plain-clause-judged
+returns-then-not-are_plain-clause-judged c = (
   λ e. absurd (cc),
   λ w.
       let passed = untested c.args.author.now c.args.others.now c.args.self.now c.args.ops.now c.requires.spelled w.0 w.1 in
       absurd (cc (c.if-not-are_plain.ensures.1 passed.plain)),
 )
 
-pub returns-then-count-le-FEW : goal.returns-then-count-le-FEW
-returns-then-count-le-FEW c = (
+pub returns-then-count-le-FEW-clause-judged : goal.returns-then-count-le-FEW-clause-judged
+returns-then-count-le-FEW-clause-judged c = (
   λ e. tested c.args.author.now c.args.others.now c.args.self.now c.args.ops.now c.requires.spelled c.requires.ascend c.requires.known (c.if-not-are_plain.ensures.0 refl) (c.are_named_by.ensures.0 e),
   λ w.
       let passed = untested c.args.author.now c.args.others.now c.args.self.now c.args.ops.now c.requires.spelled w.0 w.1 in
       c.are_named_by.ensures.1 passed.named,
 )
 
-pub returns : goal.returns
-returns c = (
+pub returns-clause-judged : goal.returns-clause-judged
+returns-clause-judged c = (
   λ e.
       let own = c.are_listed.ensures.0 e ∙ c.deref.ensures.value ∙ c.in_ok-named.ensures in
       let named = (others_are_named c.args.author.now c.args.ops.now).2 in
