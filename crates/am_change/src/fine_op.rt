@@ -164,7 +164,7 @@ pub fn is_fine_op(op: &OpRef<'_>) -> bool
     ensures { IsTrue result ↔ FineOp (op_of op.now) }
 {
     mark_known(op.mark);
-    if op.action > actions::MARK || !is_object(op.obj) || !is_key(op.key) {
+    if op.action > actions::GREATEST || !is_object(op.obj) || !is_key(op.key) {
         return false;
     }
     if !good_value(op.value) {

@@ -21,5 +21,8 @@ pub const INCREMENT: u8 = 5;
 /// It makes a table.
 pub const MAKE_TABLE: u8 = 6;
 
-/// It begins or ends a mark. No action has a greater number.
+/// It begins or ends a mark.
 pub const MARK: u8 = 7;
+
+/// No action has a greater number.
+pub const GREATEST: u8 = MARK;
