@@ -4,7 +4,8 @@
 --     IsChain nodes first es      they lead from the first through all nodes, whose ids differ
 --     IsGap nodes es before at put target      between `before` and `at` there is a gap: with what stands behind it
 --                             changed by put, the ids of es are the target
---     IsInserted nodes e target more start     the nodes are linked with one more, for e, and their ids are the target
+--     IsInserted nodes e target more start     with one more node, for e at the end, they are linked, and the ids along the
+--                             chain are the target
 use Rattle.std.specs.Prelude.{ℕ, zero, suc, ◌≡◌, ◌≢◌, ◌==◌, ◌<◌, ◌≤◌, ◌^◌, ◌++◌, List, [], ◌∷◌, length, map, Option, Some, None, Bool, true, slice_get, option_map, unwrap_or, ⊤}
 use Rattle.std.specs.List.{AllByRecursion, list_any}
 use Rattle.am_types.specs.declared.OpId.{OpId}

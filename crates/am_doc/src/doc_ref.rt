@@ -228,7 +228,8 @@ impl<'a> DocRef<'a> {
         self.actors.count()
     }
 
-    /// The actor at a place, counted from 0, or None where there are fewer. It walks there.
+    /// The actor at a place, counted from 0, or None where there are fewer. It costs a step where all actors take
+    /// as many bytes, else a walk.
     pub fn actor(&self, i: u64) -> Option<&'a [u8]>
         ensures { option_copied result ≡ slice_get self.now.actors i }
     {

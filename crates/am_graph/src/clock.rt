@@ -94,8 +94,8 @@ impl Clock {
         reach_of(&self.authors, self.table.as_slice(), actor).seq
     }
 
-    /// The counter below which the clock covers the ids of the actor, and from which on it covers none: 0 where the actor has no
-    /// change. Who asks of many ids of one actor asks for this once.
+    /// The counter below which the clock covers the ids of the actor, and from which on it covers none: 0 where the actor
+    /// has no change. Who asks of many ids of one actor asks for this once.
     pub fn end(&self, actor: &[u8]) -> u64
         ensures clock { result ≡ (reach_of self.now actor.now).end }
     {
@@ -118,8 +118,8 @@ impl<'a> Reached<'a> {
         reach_of(self.authors, self.table.as_slice(), actor).seq
     }
 
-    /// The counter below which the clock covers the ids of the actor, and from which on it covers none: 0 where the actor has no
-    /// change. Who asks of many ids of one actor asks for this once.
+    /// The counter below which the clock covers the ids of the actor, and from which on it covers none: 0 where the actor
+    /// has no change. Who asks of many ids of one actor asks for this once.
     pub fn end(&self, actor: &[u8]) -> u64
         ensures clock { result ≡ (reach_of self.now actor.now).end }
     {

@@ -69,7 +69,7 @@ fn answer(gathered: Gathered, judgement: Judgement) -> Result<Rebuilt, RebuildFa
     }
 }
 
-// The same as `rebuild_whole`, of a document that is lent.
+// The same as `rebuild_whole`, of a document that is lent, so that its proof doesn't let go of each cursor of it.
 fn rebuilt_from(alloc: Global, doc: &DocRef<'_>) -> Result<Rebuilt, RebuildFault>
     ensures judged { Rebuilds doc.now (changes_rebuilt result) }
     ensures own_hashes { IfOk result (λ r. AreOwn (vec_items r.entries)) }

@@ -58,7 +58,8 @@ fn pushed<'a>(
     Ok(maker)
 }
 
-// The reply with the text of the entries that are handed out. (They come from a box, which is let go by a function of its own.)
+// The reply with the text of the entries that are handed out. The walk stands in a box: letting go of a box is one step of
+// the proof, where a `Shown` is let go field by field.
 fn print(alloc: Global, form: Form, shown: Shown<'_>) -> Result<Bytes, AllocError>
     requires { IsInOrder shown }
     ensures { IfOk result (λ reply. reply ≡ printed (json_data form shown.entry)) }
