@@ -1,5 +1,5 @@
 -- What reading answers, in the words of the contracts: a number is found, or one of three faults comes.
-use Rattle.std.proofs.Common.{◌≡◌, ℕ, ◌^◌, ◌<◌, ◌≤◌, Bool, true, false, nat_lt, List, ◌++◌, length, take, drop, get_or, Some, None, Result, Ok, Err, pos, ℤ, refl, sym, ap, ◌∙◌, inl, inr, ⊎_elim, ◌⊎◌, ◌↔◌, subst, arith, length-take}
+use Rattle.std.proofs.Common.{◌≡◌, ℕ, ◌^◌, ◌<◌, ◌≤◌, Bool, true, false, nat_lt, List, ◌++◌, length, take, drop, get_or, Option, Some, None, Result, Ok, Err, pos, ℤ, refl, sym, ap, ◌∙◌, inl, inr, ⊎_elim, ◌⊎◌, ◌↔◌, subst, arith, length-take, if◌then◌else◌}
 use Rattle.std.specs.List.{All}
 use Rattle.std.specs.Result.{IfOk}
 use Rattle.std.proofs.lemmas.List.Elements.{All-from_recursion}
@@ -9,7 +9,7 @@ use Rattle.std.proofs.lemmas.List.{take-append-drop, take_at, take_all, length-t
 use Rattle.am_leb.specs.declared.fault.LebFault.{LebFault}
 use Rattle.am_leb.specs.declared.fault.LebFault.TheVariants.{Short, Long, Large}
 use Rattle.am_leb.specs.Leb.{IsLeb, leb, ends_negative, signed_value, unsigned_value, IsUleb, uleb, BeginsWith}
-use Rattle.am_leb.specs.Reading.{end_within, judged, unsigned_at, first_unsigned, signed_at, judged_signed, first_signed, magnitude, from_magnitude}
+use Rattle.am_leb.specs.Reading.{end_within, end_or_fault, judged, unsigned_at, first_unsigned, signed_at, judged_signed, first_signed, magnitude, from_magnitude}
 use Rattle.am_leb.proofs.Laws.{IsUleb-from_length, IsUleb-is_uleb, uleb_is, length_uleb-le}
 use Rattle.am_leb.proofs.SignedLaws.{leb_is, leb_spells, length_leb, length_leb-le, IsLeb-is_leb, IsLeb-from_length, signed_value-magnitude}
 use Rattle.am_leb.proofs.Ends.{IsEnd-from_within, end_within-none, end_within-high, end_within-spelling, end_within-front}
@@ -148,15 +148,31 @@ first_unsigned-uleb n rest h =
 pub only : (bytes : List ℕ) (n : ℕ) (rest : List ℕ) → n < 2 ^ 64 → bytes ≡ uleb n ++ rest → first_unsigned bytes ≡ Ok (n, length (uleb n))
 only bytes n rest h e = ap first_unsigned e ∙ first_unsigned-uleb n rest h
 
+-- where the end was sought
+found_by : (bytes : List ℕ) (o : Option ℕ) (len : ℕ) → Ok len ≡ end_or_fault bytes o → Some len ≡ o
+found_by bytes None len e = absurd (cc)
+found_by bytes (Some n) len e = cc
+
+unsigned_by : (bytes : List ℕ) (o : Option ℕ) (fault : LebFault) → Err fault ≡ end_or_fault bytes o → Err fault ≡ unsigned_at bytes o
+unsigned_by bytes None fault e = let q : fault ≡ (if nat_lt (length bytes) 10 then Short else Large) = cc in ap Err q
+unsigned_by bytes (Some n) fault e = absurd (cc)
+
+signed_by : (bytes : List ℕ) (o : Option ℕ) (fault : LebFault) → Err fault ≡ end_or_fault bytes o → Err fault ≡ signed_at bytes o
+signed_by bytes None fault e = let q : fault ≡ (if nat_lt (length bytes) 10 then Short else Large) = cc in ap Err q
+signed_by bytes (Some n) fault e = absurd (cc)
+
+pub end_found : (bytes : List ℕ) (len : ℕ) → Ok len ≡ end_or_fault bytes (end_within 10 bytes) → Some len ≡ end_within 10 bytes
+end_found bytes len e = found_by bytes (end_within 10 bytes) len e
+
+pub first_unsigned-fault : (bytes : List ℕ) (fault : LebFault) → Err fault ≡ end_or_fault bytes (end_within 10 bytes) → Err fault ≡ first_unsigned bytes
+unfolding first_unsigned
+first_unsigned-fault bytes fault e = unsigned_by bytes (end_within 10 bytes) fault e
+
+pub first_signed-fault : (bytes : List ℕ) (fault : LebFault) → Err fault ≡ end_or_fault bytes (end_within 10 bytes) → Err fault ≡ first_signed bytes
+unfolding first_signed
+first_signed-fault bytes fault e = signed_by bytes (end_within 10 bytes) fault e
+
 -- each way, for the code
-pub first_unsigned-short : (bytes : List ℕ) → None ≡ end_within 10 bytes → length bytes < 10 → Err Short ≡ first_unsigned bytes
-unfolding first_unsigned
-first_unsigned-short bytes e h = let t : nat_lt (length bytes) 10 ≡ true = grind (arith, nat_tests) in rw (← e, t) refl
-
-pub first_unsigned-cut : (bytes : List ℕ) → None ≡ end_within 10 bytes → 10 ≤ length bytes → Err Large ≡ first_unsigned bytes
-unfolding first_unsigned
-first_unsigned-cut bytes e h = let t : nat_lt (length bytes) 10 ≡ false = grind (arith, nat_tests) in rw (← e, t) refl
-
 pub first_unsigned-large : (bytes : List ℕ) (len n : ℕ) → Some len ≡ end_within 10 bytes → n ≡ unsigned_value (take len bytes) → 2 ^ 64 ≤ n → Err Large ≡ first_unsigned bytes
 unfolding first_unsigned
 first_unsigned-large bytes len n e v h = let t : nat_lt n (2 ^ 64) ≡ false = grind (arith, nat_tests) in rw (← e, ← v, t) refl
@@ -172,14 +188,6 @@ first_unsigned-found bytes len n e v h g = let t : nat_lt n (2 ^ 64) ≡ true = 
 -- the same for signed numbers
 by_sign : (negative : Bool) (len n : ℕ) → n < 2 ^ 63 → len ≤ length (leb (pos n)) → judged_signed negative n len ≡ Ok (from_magnitude negative n, len)
 by_sign negative len n h g = let t : nat_lt n (2 ^ 63) ≡ true = grind (arith, nat_tests) in let s : nat_lt (length (leb (pos n))) len ≡ false = grind (arith, nat_tests) in rw (t, s) refl
-
-pub first_signed-short : (bytes : List ℕ) → None ≡ end_within 10 bytes → length bytes < 10 → Err Short ≡ first_signed bytes
-unfolding first_signed
-first_signed-short bytes e h = let t : nat_lt (length bytes) 10 ≡ true = grind (arith, nat_tests) in rw (← e, t) refl
-
-pub first_signed-cut : (bytes : List ℕ) → None ≡ end_within 10 bytes → 10 ≤ length bytes → Err Large ≡ first_signed bytes
-unfolding first_signed
-first_signed-cut bytes e h = let t : nat_lt (length bytes) 10 ≡ false = grind (arith, nat_tests) in rw (← e, t) refl
 
 to_judged : (bytes : List ℕ) (len : ℕ) (negative : Bool) (n : ℕ) → Some len ≡ end_within 10 bytes → negative ≡ ends_negative (take len bytes) → n ≡ magnitude negative (take len bytes) → first_signed bytes ≡ judged_signed negative n len
 unfolding first_signed

@@ -1,5 +1,6 @@
 -- How the number that stands first is read, and which fault comes where none does.
 --     end_within k bytes      how many bytes the spelling has that begins the bytes, within the first k of them
+--     end_or_fault bytes end     that end, or the fault where there is none
 --     first_unsigned bytes, first_signed bytes     the number and the length of its spelling, or the fault
 use Rattle.std.specs.Prelude.{◌≡◌, ℕ, ◌+◌, ◌*◌, ◌^◌, ◌%◌, ◌-◌, ◌≤◌, List, [], ◌∷◌, length, take, nat_lt, true, false, suc, zero, Option, Some, None, Result, Ok, Err, if◌then◌else◌, Bool, ℤ, pos, negsuc}
 use Rattle.am_leb.specs.declared.fault.LebFault.{LebFault}
@@ -15,6 +16,10 @@ abbrev pub end_within : ℕ → List ℕ → Option ℕ
 end_within zero bytes = None
 end_within (suc k) [] = None
 end_within (suc k) (b ∷ bytes) = if nat_lt b 128 then Some 1 else one_more (end_within k bytes)
+
+abbrev pub end_or_fault : List ℕ → Option ℕ → Result ℕ LebFault
+end_or_fault bytes None = Err (if nat_lt (length bytes) 10 then Short else Large)
+end_or_fault bytes (Some len) = Ok len
 
 -- A spelling of at most nine bytes begins the bytes: how many it has, what it spells as unsigned, and the bound that so many bytes stay below.
 abbrev pub Spelled : List ℕ → ℕ → ℕ → ℕ → Type 0

@@ -52,26 +52,18 @@ fn is_negative(spelling: &[u8]) -> bool
 fn signed_number_at(bytes: &[u8]) -> Result<(i64, usize), LebFault>
     ensures { result ≡ first_signed bytes.now }
 {
-    match end_of(bytes) {
-        None => Err(if bytes.len() < 10 {
-            LebFault::Short
-        } else {
-            LebFault::Large
-        }),
-        Some(len) => {
-            let spelling = &bytes[..len];
-            let negative = is_negative(spelling);
-            let magnitude = magnitude_of(spelling, negative);
-            if magnitude >= 1 << 63 {
-                return Err(LebFault::Large);
-            }
-            if signed_len(magnitude as u64) < len {
-                return Err(LebFault::Long);
-            }
-            let value = magnitude as i64;
-            Ok((if negative { -1 - value } else { value }, len))
-        }
+    let len = end_of(bytes)?;
+    let spelling = &bytes[..len];
+    let negative = is_negative(spelling);
+    let magnitude = magnitude_of(spelling, negative);
+    if magnitude >= 1 << 63 {
+        return Err(LebFault::Large);
     }
+    if signed_len(magnitude as u64) < len {
+        return Err(LebFault::Long);
+    }
+    let value = magnitude as i64;
+    Ok((if negative { -1 - value } else { value }, len))
 }
 
 // The same, with numbers that end within nine bytes read in one pass.

@@ -1,18 +1,24 @@
 //! Where a spelling ends.
 ghost use Rattle.std.specs.Prelude.{◌≡◌, ◌<◌, ◌∷◌, drop, IfSome};
-ghost use Rattle.am_leb.specs.Reading.{end_within, Spelled};
+ghost use Rattle.am_leb.specs.Reading.{end_within, end_or_fault, Spelled};
 
-// The length of the spelling that begins the bytes, if it ends within ten.
-pub fn end_of(bytes: &[u8]) -> Option<usize>
-    ensures { result ≡ end_within 10 bytes.now }
+use crate::fault::LebFault;
+
+// The length of the spelling that begins the bytes, or the fault where it doesn't end within ten.
+pub fn end_of(bytes: &[u8]) -> Result<usize, LebFault>
+    ensures { result ≡ end_or_fault bytes.now (end_within 10 bytes.now) }
 {
     let most = bytes.len().min(10);
     for i in 0..most {
         if bytes[i] < 128 {
-            return Some(i + 1);
+            return Ok(i + 1);
         }
     }
-    None
+    Err(if bytes.len() < 10 {
+        LebFault::Short
+    } else {
+        LebFault::Large
+    })
 }
 
 // The byte that begins the bytes, where it is a whole spelling.

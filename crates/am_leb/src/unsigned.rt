@@ -34,24 +34,16 @@ fn unsigned_len(n: u64) -> usize
 fn number_at(bytes: &[u8]) -> Result<(u64, usize), LebFault>
     ensures { result ≡ first_unsigned bytes.now }
 {
-    match end_of(bytes) {
-        None => Err(if bytes.len() < 10 {
-            LebFault::Short
-        } else {
-            LebFault::Large
-        }),
-        Some(len) => {
-            let value = unsigned_of(&bytes[..len]);
-            if value >= 1 << 64 {
-                return Err(LebFault::Large);
-            }
-            let value = value as u64;
-            if unsigned_len(value) < len {
-                return Err(LebFault::Long);
-            }
-            Ok((value, len))
-        }
+    let len = end_of(bytes)?;
+    let value = unsigned_of(&bytes[..len]);
+    if value >= 1 << 64 {
+        return Err(LebFault::Large);
     }
+    let value = value as u64;
+    if unsigned_len(value) < len {
+        return Err(LebFault::Long);
+    }
+    Ok((value, len))
 }
 
 // The same, with numbers that end within nine bytes read in one pass.
