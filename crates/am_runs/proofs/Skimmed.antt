@@ -5,16 +5,9 @@ use Rattle.std.proofs.lemmas.Bool.{cases_lt}
 use Rattle.std.proofs.lemmas.List.{drop-drop, get_or-drop}
 use Rattle.am_leb.proofs.Answering.{IsBytes}
 use Rattle.am_leb.proofs.Ending.{first_unsigned-ends, first_signed-ends}
-use Rattle.am_leb.proofs.OneByte.{first_unsigned-low, first_signed-low}
-use Rattle.am_runs.specs.Items.{length_read, unsigned_end, signed_end}
+use Rattle.am_runs.specs.Items.{length_read, unsigned_end, signed_end, IsLast}
 use Rattle.am_runs.specs.Walking.{and_behind, behind_items}
 use Rattle.am_runs.proofs.RunsRead.{behind_items-more, behind_items-none}
-
-pub unsigned_single : (b : ℕ) (tail : List ℕ) → b < 128 → unsigned_end (b ∷ tail) ≡ Some 1
-unsigned_single b tail h = ap length_read (first_unsigned-low (b ∷ tail) tail b h refl)
-
-pub signed_single : (b : ℕ) (tail : List ℕ) → b < 128 → signed_end (b ∷ tail) ≡ Some 1
-signed_single b tail h = ap length_read (first_signed-low (b ∷ tail) tail b h refl)
 
 pub singles : (end : List ℕ → Option ℕ) → ((b : ℕ) (tail : List ℕ) → b < 128 → end (b ∷ tail) ≡ Some 1) → (n : ℕ) (bytes : List ℕ) → n ≤ length bytes → IsAscii (take n bytes) → behind_items end n bytes ≡ Some (drop n bytes)
 unfolding behind_items
@@ -60,31 +53,34 @@ next_begun end bytes count left start i s e h = record {
 pub all_passed : (end : List ℕ → Option ℕ) (bytes : List ℕ) (count left start i : ℕ) → Skims end bytes count left start i → end (drop start bytes) ≡ Some (suc (i - start)) → left - 1 ≡ 0 → behind_items end count bytes ≡ Some (drop (i + 1) bytes)
 all_passed end bytes count left start i s e h = one_less end bytes count left start i s e ∙ behind_items-none end (left - 1) (drop (i + 1) bytes) h
 
--- A byte that says that none follows ends the number, of nine bytes at most, if it isn't one too many.
-pub unsigned_ends : (bytes : List ℕ) (count left start i : ℕ) → IsBytes bytes → Skims unsigned_end bytes count left start i → i < length bytes → i - start ≤ 8 → get_or bytes i 0 < 128
-    → (start < i → 0 < get_or bytes i 0) → unsigned_end (drop start bytes) ≡ Some (suc (i - start))
-unsigned_ends bytes count left start i f s inside few low some =
+-- A byte below 128 is the last one of the number that was begun.
+pub is_last : (end : List ℕ → Option ℕ) (bytes : List ℕ) (count left start i : ℕ) → Skims end bytes count left start i → i - start ≤ 8 → get_or bytes i 0 < 128 → IsLast bytes start i
+is_last end bytes count left start i s few low = (omega (arith, s.begun), low, s.high)
+
+-- A last byte ends a number, of nine bytes at most, if it isn't one too many.
+pub unsigned_ends : (bytes : List ℕ) (start i : ℕ) → IsBytes bytes → start ≤ i → i < length bytes → IsLast bytes start i → (start < i → 0 < get_or bytes i 0) → unsigned_end (drop start bytes) ≡ Some (suc (i - start))
+unsigned_ends bytes start i f begun inside ending some =
     let at : (k : ℕ) → get_or (drop start bytes) k 0 ≡ get_or bytes (start + k) 0 = λ k. get_or-drop start bytes k 0 in
-    let last : get_or (drop start bytes) (i - start) 0 ≡ get_or bytes i 0 = at (i - start) ∙ ap (λ j. get_or bytes j 0) (let q : start + (i - start) ≡ i = omega (arith, s.begun) in q) in
+    let last : get_or (drop start bytes) (i - start) 0 ≡ get_or bytes i 0 = at (i - start) ∙ ap (λ j. get_or bytes j 0) (let q : start + (i - start) ≡ i = omega arith in q) in
     ap length_read (first_unsigned-ends (drop start bytes) (i - start)
     (λ k. subst (λ b. b < 256) (sym (at k)) (f (start + k)))
-    (omega arith)
-    (omega (arith, length-drop start bytes, s.begun))
-    (λ k lt. subst (λ b. 128 ≤ b) (sym (at k)) (s.high (start + k) (omega arith) (omega (arith, s.begun))))
-    (subst (λ b. b < 128) (sym last) low)
-    (λ p. subst (λ b. 0 < b) (sym last) (some (omega (arith, s.begun)))))
+    (omega (arith, ending.0))
+    (omega (arith, length-drop start bytes))
+    (λ k lt. subst (λ b. 128 ≤ b) (sym (at k)) (ending.2 (start + k) (omega arith) (omega arith)))
+    (subst (λ b. b < 128) (sym last) ending.1)
+    (λ p. subst (λ b. 0 < b) (sym last) (some (omega arith))))
 
-pub signed_ends : (bytes : List ℕ) (count left start i : ℕ) → IsBytes bytes → Skims signed_end bytes count left start i → i < length bytes → i - start ≤ 8 → get_or bytes i 0 < 128
+pub signed_ends : (bytes : List ℕ) (start i : ℕ) → IsBytes bytes → start ≤ i → i < length bytes → IsLast bytes start i
     → (start < i → get_or bytes i 0 ≡ 0 → 192 ≤ get_or bytes (i - 1) 0) → (start < i → get_or bytes i 0 ≡ 127 → get_or bytes (i - 1) 0 < 192) → signed_end (drop start bytes) ≡ Some (suc (i - start))
-signed_ends bytes count left start i f s inside few low zeros ones =
+signed_ends bytes start i f begun inside ending zeros ones =
     let at : (k : ℕ) → get_or (drop start bytes) k 0 ≡ get_or bytes (start + k) 0 = λ k. get_or-drop start bytes k 0 in
-    let last : get_or (drop start bytes) (i - start) 0 ≡ get_or bytes i 0 = at (i - start) ∙ ap (λ j. get_or bytes j 0) (let q : start + (i - start) ≡ i = omega (arith, s.begun) in q) in
-    let before : 0 < i - start → get_or (drop start bytes) (i - start - 1) 0 ≡ get_or bytes (i - 1) 0 = λ p. at (i - start - 1) ∙ ap (λ j. get_or bytes j 0) (let q : start + (i - start - 1) ≡ i - 1 = omega (arith, s.begun) in q) in
+    let last : get_or (drop start bytes) (i - start) 0 ≡ get_or bytes i 0 = at (i - start) ∙ ap (λ j. get_or bytes j 0) (let q : start + (i - start) ≡ i = omega arith in q) in
+    let before : 0 < i - start → get_or (drop start bytes) (i - start - 1) 0 ≡ get_or bytes (i - 1) 0 = λ p. at (i - start - 1) ∙ ap (λ j. get_or bytes j 0) (let q : start + (i - start - 1) ≡ i - 1 = omega arith in q) in
     ap length_read (first_signed-ends (drop start bytes) (i - start)
     (λ k. subst (λ b. b < 256) (sym (at k)) (f (start + k)))
-    (omega arith)
-    (omega (arith, length-drop start bytes, s.begun))
-    (λ k lt. subst (λ b. 128 ≤ b) (sym (at k)) (s.high (start + k) (omega arith) (omega (arith, s.begun))))
-    (subst (λ b. b < 128) (sym last) low)
-    (λ p e. subst (λ b. 192 ≤ b) (sym (before p)) (zeros (omega (arith, s.begun)) (sym last ∙ e)))
-    (λ p e. subst (λ b. b < 192) (sym (before p)) (ones (omega (arith, s.begun)) (sym last ∙ e)))).1
+    (omega (arith, ending.0))
+    (omega (arith, length-drop start bytes))
+    (λ k lt. subst (λ b. 128 ≤ b) (sym (at k)) (ending.2 (start + k) (omega arith) (omega arith)))
+    (subst (λ b. b < 128) (sym last) ending.1)
+    (λ p e. subst (λ b. 192 ≤ b) (sym (before p)) (zeros (omega arith) (sym last ∙ e)))
+    (λ p e. subst (λ b. b < 192) (sym (before p)) (ones (omega arith) (sym last ∙ e)))).1

@@ -1,5 +1,5 @@
 -- The three kinds of items keep what is asked of `end`: it reads within the bytes, and no item begins another. An item of a number is the spelling of what it spells.
-use Rattle.std.proofs.Common.{◌≡◌, ℕ, ℤ, ◌+◌, ◌-◌, ◌<◌, ◌≤◌, ◌^◌, Bool, true, false, nat_le, ◌&&◌, cond, List, [], ◌++◌, length, take, drop, Some, None, Result, Ok, Err, refl, sym, ap, ◌∙◌, arith, append_assoc, length-append}
+use Rattle.std.proofs.Common.{◌≡◌, ℕ, ℤ, ◌+◌, ◌-◌, ◌<◌, ◌≤◌, ◌^◌, Bool, true, false, nat_le, ◌&&◌, cond, List, [], ◌∷◌, ◌++◌, length, take, drop, Some, None, Result, Ok, Err, refl, sym, ap, ◌∙◌, arith, append_assoc, length-append}
 use Rattle.std.specs.Str.{is_utf8}
 use Rattle.std.proofs.lemmas.Bool.Decides.{nat_tests}
 use Rattle.std.proofs.lemmas.List.{append-nil, length-take-le, length-drop, take_all, take_at, drop_at, take-append-drop, drop-take}
@@ -8,6 +8,7 @@ use Rattle.am_leb.specs.declared.LebFault.{LebFault}
 use Rattle.am_leb.specs.Leb.{uleb, leb, unsigned_value, signed_value}
 use Rattle.am_leb.specs.Reading.{first_unsigned, first_signed}
 use Rattle.am_leb.proofs.Laws.{uleb_is}
+use Rattle.am_leb.proofs.OneByte.{first_unsigned-low, first_signed-low}
 use Rattle.am_leb.proofs.SignedLaws.{leb_is}
 use Rattle.am_leb.proofs.Answering.{IsBytes, first_unsigned-prefix, first_signed-prefix, first_unsigned-front, first_signed-front}
 use Rattle.am_runs.specs.Items.{ReadsItems, IsItem, length_read, unsigned_end, signed_end, text_end_by, text_end}
@@ -54,6 +55,13 @@ unsigned_nothing = refl
 pub signed_nothing : None ≡ signed_end []
 unfolding first_signed
 signed_nothing = refl
+
+-- a byte below 128 is a number by itself
+pub unsigned_single : (b : ℕ) (tail : List ℕ) → b < 128 → unsigned_end (b ∷ tail) ≡ Some 1
+unsigned_single b tail h = ap length_read (first_unsigned-low (b ∷ tail) tail b h refl)
+
+pub signed_single : (b : ℕ) (tail : List ℕ) → b < 128 → signed_end (b ∷ tail) ≡ Some 1
+signed_single b tail h = ap length_read (first_signed-low (b ∷ tail) tail b h refl)
 
 -- ---- what a number's item spells
 

@@ -1,8 +1,9 @@
 -- Items by their spellings. A kind of item is known by `end`, the length of the item that begins bytes, if one does.
 --     IsItem end bytes      the bytes are one item, whole
 --     ReadsItems end        what `end` keeps
+--     IsLast bytes start i  the byte at i is the last of the number that begins at start
 --     unsigned_end, signed_end, text_end     numbers in their shortest LEB128, and texts in UTF-8 behind their length
-use Rattle.std.specs.Prelude.{◌≡◌, ℕ, ◌+◌, ◌-◌, ◌≤◌, List, [], ◌++◌, length, take, drop, Option, Some, None, Result, Ok, Err, ◌&&◌, nat_le, if◌then◌else◌}
+use Rattle.std.specs.Prelude.{◌≡◌, ℕ, ◌+◌, ◌-◌, ◌<◌, ◌≤◌, List, [], ◌++◌, length, take, drop, get_or, Option, Some, None, Result, Ok, Err, ◌&&◌, nat_le, if◌then◌else◌}
 use Rattle.std.specs.Str.{is_utf8}
 use Rattle.am_leb.specs.declared.LebFault.{LebFault}
 use Rattle.am_leb.specs.Leb.{uleb}
@@ -22,6 +23,10 @@ pub record ReadsItems (end : List ℕ → Option ℕ) : Type 0 where
 abbrev pub length_read : {A : Type 0} → Result (A × ℕ) LebFault → Option ℕ
 length_read (Ok x) = Some x.1
 length_read (Err e) = None
+
+-- The byte at i is the last of the number that begins at start: it says that none follows, and each before it, eight at most, that more do.
+abbrev pub IsLast : List ℕ → ℕ → ℕ → Type 0
+IsLast bytes start i = (i ≤ start + 8) × (get_or bytes i 0 < 128) × ((k : ℕ) → start ≤ k → k < i → 128 ≤ get_or bytes k 0)
 
 -- the items of a column of unsigned numbers
 abbrev pub unsigned_end : List ℕ → Option ℕ

@@ -6,8 +6,10 @@ ghost use Rattle.am_leb.specs.Leb.{uleb, leb};
 ghost use Rattle.am_runs.specs.Walking.{behind_items};
 ghost use Rattle.am_runs.specs.Items.{ReadsItems, IsItem, unsigned_end, signed_end, text_end, text_spelling};
 
-use crate::skim::{skim_signed, skim_unsigned};
-use am_leb::{read_i, read_u};
+use crate::leb::{Number, Signed, Unsigned};
+use crate::skim::skimmed;
+use am_leb::read_u;
+use std::marker::PhantomData;
 use std::str::from_utf8;
 
 /// A kind of item, known by where its spellings end.
@@ -30,49 +32,31 @@ pub trait Item {
     ghost reads: { ReadsItems end_of };
 }
 
-/// Numbers below 2^64, each in its shortest LEB128.
-pub struct UnsignedItem;
-
-impl Item for UnsignedItem {
-    ghost use Rattle.am_runs.specs.Items.{unsigned_end};
-    ghost use Rattle.am_runs.specs.ItemLaws.{unsigned_reads};
-
-    ghost end_of = { unsigned_end };
-
-    ghost reads = { unsigned_reads };
-
-    fn end(bytes: &[u8]) -> Option<usize> {
-        match read_u(bytes) {
-            Ok((_, len)) => Some(len),
-            Err(_) => None,
-        }
-    }
-
-    fn skim<'a>(count: u64, bytes: &'a [u8]) -> Option<&'a [u8]> {
-        skim_unsigned(count, bytes)
-    }
+/// The numbers of a kind.
+pub struct NumberItem<N> {
+    of: PhantomData<N>,
 }
 
+/// Numbers below 2^64, each in its shortest LEB128.
+pub type UnsignedItem = NumberItem<Unsigned>;
+
 /// Numbers from -2^63 up to 2^63 - 1, each in its shortest signed LEB128.
-pub struct SignedItem;
+pub type SignedItem = NumberItem<Signed>;
 
-impl Item for SignedItem {
-    ghost use Rattle.am_runs.specs.Items.{signed_end};
-    ghost use Rattle.am_runs.specs.ItemLaws.{signed_reads};
+impl<N: Number> Item for NumberItem<N> {
+    ghost end_of = { N.end_of };
 
-    ghost end_of = { signed_end };
-
-    ghost reads = { signed_reads };
+    ghost reads = { N.reads };
 
     fn end(bytes: &[u8]) -> Option<usize> {
-        match read_i(bytes) {
-            Ok((_, len)) => Some(len),
-            Err(_) => None,
+        match N::first(bytes) {
+            Some((_, len)) => Some(len),
+            None => None,
         }
     }
 
     fn skim<'a>(count: u64, bytes: &'a [u8]) -> Option<&'a [u8]> {
-        skim_signed(count, bytes)
+        skimmed::<N>(count, bytes)
     }
 }
 

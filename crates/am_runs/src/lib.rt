@@ -8,6 +8,7 @@ mod fault;
 mod item;
 mod judge;
 mod laws;
+mod leb;
 mod literal;
 mod number;
 mod numbers;

@@ -1,5 +1,5 @@
-//! Kinds of items that are numbers, and how their runs are read.
-ghost use Rattle.std.specs.Prelude.{◌≡◌, ◌<◌, ◌≤◌, ◌∷◌, [], ℕ, List, None, Some, get_or, length, map, take, IfSome, IsSome};
+//! How runs of numbers are read.
+ghost use Rattle.std.specs.Prelude.{◌≡◌, ◌<◌, ◌∷◌, Some, map, IfSome, IsSome};
 ghost use Rattle.std.specs.Option.{option_copied, option_map};
 ghost use Rattle.am_runs.specs.Counters.{IsCounted, counted, entries_from};
 ghost use Rattle.am_runs.specs.Items.{IsItem};
@@ -7,109 +7,19 @@ ghost use Rattle.am_runs.specs.Positions.{place_of};
 ghost use Rattle.am_runs.specs.Walking.{open_run, open_repeat};
 
 use crate::counters::Counters;
-use crate::item::{Item, SignedItem, UnsignedItem};
+use crate::leb::Number;
 use crate::place::{Kind, Position, open_null_run};
-use crate::value::{low_number, signed_number, unsigned_number};
-use am_leb::{read_i, read_u};
+use am_leb::read_i;
 
-/// A kind of item that spells numbers.
-pub trait Number: Item {
-    /// What an item spells.
-    type Value: Copy;
-
-    /// The number that an item spells.
-    ghost value_of: { List ℕ → Self.Value };
-
-    /// The item that spells a number.
-    ghost spelling: { Self.Value → List ℕ };
-
-    /// The number that an item spells.
-    fn number(item: &[u8]) -> Self::Value
-        requires item { IsItem Self.end_of item.now }
-        ensures value { result ≡ Self.value_of item.now };
-
-    /// The number that begins the bytes, and how many bytes it takes there.
-    fn first(bytes: &[u8]) -> Option<(Self::Value, usize)>
-        ensures end { option_map (λ r. r.1) result ≡ Self.end_of bytes.now }
-        ensures value { IfSome result (λ r. r.0 ≡ Self.value_of (take r.1 bytes.now)) }
-        ensures within { IfSome result (λ r. r.1 ≤ length bytes.now) };
-
-    /// The number of one byte that begins the bytes.
-    fn low(bytes: &[u8]) -> Self::Value
-        requires some { 0 < length bytes.now }
-        requires low { get_or bytes.now 0 0 < 128 }
-        ensures end { Some 1 ≡ Self.end_of bytes.now }
-        ensures value { result ≡ Self.value_of (take 1 bytes.now) };
-
-    ghost nothing: { None ≡ Self.end_of [] };
-
-    /// An item is the spelling of what it spells.
-    ghost respelled: { (item : List ℕ) → ((i : ℕ) → get_or item i 0 < 256) → IsItem Self.end_of item → spelling (value_of item) ≡ item };
-}
-
-impl Number for UnsignedItem {
-    ghost use Rattle.am_leb.specs.Leb.{uleb, unsigned_value};
-    ghost use Rattle.am_runs.specs.ItemLaws.{unsigned_nothing, unsigned_again};
-
-    type Value = u64;
-
-    ghost value_of = { unsigned_value };
-
-    ghost spelling = { uleb };
-
-    ghost nothing = { unsigned_nothing };
-
-    ghost respelled = { unsigned_again };
-
-    #[inline(always)]
-    fn number(item: &[u8]) -> u64 {
-        unsigned_number(item)
-    }
-
-    #[inline(always)]
-    fn first(bytes: &[u8]) -> Option<(u64, usize)> {
-        match read_u(bytes) {
-            Err(_) => None,
-            Ok((n, len)) => Some((n, len)),
-        }
-    }
-
-    #[inline(always)]
-    fn low(bytes: &[u8]) -> u64 {
-        u64::from(bytes[0])
-    }
-}
-
-impl Number for SignedItem {
-    ghost use Rattle.am_leb.specs.Leb.{leb, signed_value};
-    ghost use Rattle.am_runs.specs.ItemLaws.{signed_nothing, signed_again};
-
-    type Value = i64;
-
-    ghost value_of = { signed_value };
-
-    ghost spelling = { leb };
-
-    ghost nothing = { signed_nothing };
-
-    ghost respelled = { signed_again };
-
-    #[inline(always)]
-    fn number(item: &[u8]) -> i64 {
-        signed_number(item)
-    }
-
-    #[inline(always)]
-    fn first(bytes: &[u8]) -> Option<(i64, usize)> {
-        match read_i(bytes) {
-            Err(_) => None,
-            Ok((n, len)) => Some((n, len)),
-        }
-    }
-
-    #[inline(always)]
-    fn low(bytes: &[u8]) -> i64 {
-        low_number(bytes[0])
+// The number that an item spells.
+#[inline(always)]
+fn number_in<K: Number>(item: &[u8]) -> K::Value
+    requires { IsItem K.end_of item.now }
+    ensures { result ≡ K.value_of item.now }
+{
+    match K::first(item) {
+        Some((n, _)) => n,
+        None => unreachable!(),
     }
 }
 
@@ -120,7 +30,7 @@ pub fn number_of<K: Number>(entry: Option<&[u8]>) -> Option<K::Value>
 {
     match entry {
         None => None,
-        Some(item) => Some(K::number(item)),
+        Some(item) => Some(number_in::<K>(item)),
     }
 }
 

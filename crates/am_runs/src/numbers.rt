@@ -10,8 +10,9 @@ ghost use Rattle.am_runs.specs.Typed.{AllItems};
 use crate::counters::{Counters, counters_of, runs_from};
 use crate::cursor::RunCursor;
 use crate::fault::BadRun;
-use crate::item::{SignedItem, UnsignedItem};
-use crate::number::{Number, literal_number, number_of, opened};
+use crate::item::NumberItem;
+use crate::leb::{Number, Signed, Unsigned};
+use crate::number::{literal_number, number_of, opened};
 use std::marker::Model;
 
 /// The numbers of a column, one after another.
@@ -23,10 +24,10 @@ pub struct NumberCursor<'a, K: Number> {
 }
 
 /// The unsigned numbers of a column, one after another.
-pub type UnsignedCursor<'a> = NumberCursor<'a, UnsignedItem>;
+pub type UnsignedCursor<'a> = NumberCursor<'a, Unsigned>;
 
 /// The signed numbers of a column, one after another.
-pub type SignedCursor<'a> = NumberCursor<'a, SignedItem>;
+pub type SignedCursor<'a> = NumberCursor<'a, Signed>;
 
 impl<'a, K: Number> Model for NumberCursor<'a, K> {
     ghost use Rattle.std.specs.Prelude.{ℕ, ℤ, List, Option};
@@ -41,7 +42,7 @@ impl<'a, K: Number> Model for NumberCursor<'a, K> {
 }
 
 // A cursor over what the entries spell.
-fn numbers_of<'a, K: Number>(runs: &RunCursor<'a, K>) -> NumberCursor<'a, K>
+fn numbers_of<'a, K: Number>(runs: &RunCursor<'a, NumberItem<K>>) -> NumberCursor<'a, K>
     requires { AllItems K.end_of runs.now }
     ensures { result ≡ map (option_map K.value_of) runs.now }
 {
@@ -115,7 +116,7 @@ impl<'a, K: Number> NumberCursor<'a, K> {
         if self.at.copies > 0 {
             return Some((self.value, self.at.copies));
         }
-        match runs_from::<K>(&self.at).like() {
+        match runs_from::<NumberItem<K>>(&self.at).like() {
             None => None,
             Some((entry, k)) => Some((number_of::<K>(entry), k)),
         }
@@ -162,7 +163,7 @@ impl<'a, K: Number> NumberCursor<'a, K> {
     }
 }
 
-impl<'a> NumberCursor<'a, SignedItem> {
+impl<'a> NumberCursor<'a, Signed> {
     // How many items of a literal run come next, and the bytes that they begin. While there are copies, none does.
     pub(crate) fn literal(&self) -> (u64, &'a [u8])
         ensures { (items : List (List ℕ)) (rest : List ℕ) → AllByRecursion (IsItem signed_end) items → length items ≤ result.0 → result.1.now ≡ flat_map (λ item. item) items ++ rest

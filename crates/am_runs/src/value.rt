@@ -7,30 +7,6 @@ ghost use Rattle.am_runs.specs.Items.{IsItem, unsigned_end, signed_end, text_end
 use am_leb::{read_i, read_u};
 use std::str::from_utf8;
 
-/// The number that an item spells.
-#[inline(always)]
-pub fn unsigned_number(item: &[u8]) -> u64
-    requires { IsItem unsigned_end item.now }
-    ensures { result ≡ unsigned_value item.now }
-{
-    match read_u(item) {
-        Ok((n, _)) => n,
-        Err(_) => 0,
-    }
-}
-
-/// The signed number that an item spells.
-#[inline(always)]
-pub fn signed_number(item: &[u8]) -> i64
-    requires { IsItem signed_end item.now }
-    ensures { result ≡ signed_value item.now }
-{
-    match read_i(item) {
-        Ok((n, _)) => n,
-        Err(_) => 0,
-    }
-}
-
 /// The signed number of one byte.
 #[inline(always)]
 pub fn low_number(low: u8) -> i64

@@ -12,5 +12,5 @@ returns-in-Some-clause-like g c =
     let l = c.in-Some.ensures.like in
     let at = c.self.inside.at in
     let runs = c.runs_from.result in
-    let bare = sym c.self.view_is ∙ counted_none g.K.Number.value_of at.copies c.self.inside.value (entries_from g.K.Item.end_of at.literal at.left at.rest.now) (omega arith) ∙ ap (map (option_map g.K.Number.value_of)) (sym c.runs_from.ensures) in
+    let bare = sym c.self.view_is ∙ counted_none g.K.Number.value_of at.copies c.self.inside.value (entries_from g.K.Number.end_of at.literal at.left at.rest.now) (omega arith) ∙ ap (map (option_map g.K.Number.value_of)) (sym c.runs_from.ensures) in
     (l.0, omega (arith, l.1, ap length bare, length-map runs (option_map g.K.Number.value_of)), ap (take k) bare ∙ like_mapped (option_map g.K.Number.value_of) runs k (option_copied c.in-Some.entry) _ c.number_of.ensures l.2)

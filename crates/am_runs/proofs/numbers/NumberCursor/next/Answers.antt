@@ -8,5 +8,5 @@ use Rattle.am_runs.proofs.numbers.NumberCursor.next.Goals as goal
 pub returns-then-self-eq0-clause-end : goal.returns-then-self-eq0-clause-end
 returns-then-self-eq0-clause-end g c =
     let at = c.self.inside.at in
-    let e = sym c.self.view_is ∙ counted_none g.K.Number.value_of at.copies c.self.inside.value (entries_from g.K.Item.end_of at.literal at.left at.rest.now) (omega arith) ∙ ap (map (option_map g.K.Number.value_of)) (entries-none g.K.Item.end_of _ _ (omega arith)) in
+    let e = sym c.self.view_is ∙ counted_none g.K.Number.value_of at.copies c.self.inside.value (entries_from g.K.Number.end_of at.literal at.left at.rest.now) (omega arith) ∙ ap (map (option_map g.K.Number.value_of)) (entries-none g.K.Number.end_of _ _ (omega arith)) in
     (e, e)

@@ -13,7 +13,7 @@ pub numbers_of-requires : goal.numbers_of-requires
 numbers_of-requires g c = JoinsRuns-items _ _ _ c.spelled-runs.ensures.spelled
 
 pub returns-clause-spelled : goal.returns-clause-spelled
-returns-clause-spelled g c = subst (λ list. JoinsRuns g.K.Item.end_of c.args.bytes.now (map (option_map g.K.Number.spelling) list)) (sym c.numbers_of.ensures) (joins_again g.K.Item.end_of g.K.Number.value_of g.K.Number.spelling g.met.K.Number.respelled _ _ (λ i. omega (arith, c.type_inv.bytes i)) c.spelled-runs.ensures.spelled)
+returns-clause-spelled g c = subst (λ list. JoinsRuns g.K.Number.end_of c.args.bytes.now (map (option_map g.K.Number.spelling) list)) (sym c.numbers_of.ensures) (joins_again g.K.Number.end_of g.K.Number.value_of g.K.Number.spelling g.met.K.Number.respelled _ _ (λ i. omega (arith, c.type_inv.bytes i)) c.spelled-runs.ensures.spelled)
 
 pub returns-clause-count : goal.returns-clause-count
 returns-clause-count g c = ap length c.numbers_of.ensures ∙ length-map c.spelled-runs.result (option_map g.K.Number.value_of) ∙ c.spelled-runs.ensures.count

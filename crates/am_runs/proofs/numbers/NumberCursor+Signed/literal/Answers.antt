@@ -1,6 +1,6 @@
 use Rattle.std.proofs.Common.{arith}
 use Rattle.am_runs.proofs.Neighbours.{numbers_front, none_front}
-use Rattle.am_runs.proofs.numbers.NumberCursor+SignedItem.literal.Goals as goal
+use Rattle.am_runs.proofs.numbers.NumberCursor+Signed.literal.Goals as goal
 
 pub returns-then-self-gt0 : goal.returns-then-self-gt0
 returns-then-self-gt0 c = λ items rest i l e. none_front items c.args.self.now l
