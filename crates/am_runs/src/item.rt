@@ -1,16 +1,14 @@
 //! Kinds of items, each known by where its spellings end: numbers in their shortest LEB128, and texts behind their length.
 ghost use Rattle.std.specs.Prelude.{◌≡◌, ◌<◌, ◌≤◌, ◌^◌, ◌↔◌, ℕ, List, Option, length, Some, IfSome, IsUtf8, FitsSigned, ℤ};
 ghost use Rattle.std.specs.Int.{w64};
-ghost use Rattle.std.specs.Str.{is_utf8};
 ghost use Rattle.am_leb.specs.Leb.{uleb, leb};
 ghost use Rattle.am_runs.specs.Walking.{behind_items};
 ghost use Rattle.am_runs.specs.Items.{ReadsItems, IsItem, unsigned_end, signed_end, text_end, text_spelling};
 
 use crate::leb::{Number, Signed, Unsigned};
 use crate::skim::skimmed;
-use am_leb::read_u;
+use crate::value::text_at;
 use std::marker::PhantomData;
-use std::str::from_utf8;
 
 /// A kind of item, known by where its spellings end.
 pub trait Item {
@@ -60,16 +58,6 @@ impl<N: Number> Item for NumberItem<N> {
     }
 }
 
-/// Whether the bytes are UTF-8.
-fn is_text(bytes: &[u8]) -> bool
-    ensures { result ≡ is_utf8 bytes.now }
-{
-    match from_utf8(bytes) {
-        Ok(_) => true,
-        Err(_) => false,
-    }
-}
-
 /// Texts in UTF-8, each behind its length in bytes.
 pub struct TextItem;
 
@@ -82,20 +70,9 @@ impl Item for TextItem {
     ghost reads = { text_reads };
 
     fn end(bytes: &[u8]) -> Option<usize> {
-        match read_u(bytes) {
-            Err(_) => None,
-            Ok((n, len)) => {
-                let rest = &bytes[len..];
-                if n > rest.len() as u64 {
-                    return None;
-                }
-                let n = n as usize;
-                if is_text(&rest[..n]) {
-                    Some(len + n)
-                } else {
-                    None
-                }
-            }
+        match text_at(bytes) {
+            Some((_, len)) => Some(len),
+            None => None,
         }
     }
 }

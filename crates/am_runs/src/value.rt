@@ -1,10 +1,11 @@
 //! What an item spells.
-ghost use Rattle.std.specs.Prelude.{◌≡◌, ◌<◌};
-ghost use Rattle.am_leb.specs.Leb.{unsigned_value, signed_value};
+ghost use Rattle.std.specs.Prelude.{◌≡◌, ◌<◌, ◌≤◌, length, take, IfSome, IfNone, true, false};
+ghost use Rattle.std.specs.Option.{option_map};
+ghost use Rattle.std.specs.Str.{is_utf8};
 ghost use Rattle.am_leb.specs.Reading.{low_value};
-ghost use Rattle.am_runs.specs.Items.{IsItem, unsigned_end, signed_end, text_end, text_of};
+ghost use Rattle.am_runs.specs.Items.{IsItem, text_end, text_of};
 
-use am_leb::{read_i, read_u};
+use am_leb::read_u;
 use std::str::from_utf8;
 
 /// The signed number of one byte.
@@ -17,6 +18,40 @@ pub fn low_number(low: u8) -> i64
         i64::from(low)
     } else {
         i64::from(low) - 128
+    }
+}
+
+// The bytes as a text, if they are UTF-8.
+fn text_over<'a>(bytes: &'a [u8]) -> Option<&'a str>
+    ensures some { IfSome result (λ text. (text.now ≡ bytes.now) × (is_utf8 bytes.now ≡ true)) }
+    ensures none { IfNone result (is_utf8 bytes.now ≡ false) }
+{
+    match from_utf8(bytes) {
+        Ok(text) => Some(text),
+        Err(_) => None,
+    }
+}
+
+/// The text that begins the bytes, behind its length, and how many bytes the two take.
+#[inline(always)]
+pub fn text_at<'a>(bytes: &'a [u8]) -> Option<(&'a str, usize)>
+    ensures end { option_map (λ r. r.1) result ≡ text_end bytes.now }
+    ensures value { IfSome result (λ r. r.0.now ≡ text_of (take r.1 bytes.now)) }
+    ensures within { IfSome result (λ r. r.1 ≤ length bytes.now) }
+{
+    match read_u(bytes) {
+        Err(_) => None,
+        Ok((n, len)) => {
+            let rest = &bytes[len..];
+            if n > rest.len() as u64 {
+                return None;
+            }
+            let n = n as usize;
+            match text_over(&rest[..n]) {
+                None => None,
+                Some(text) => Some((text, len + n)),
+            }
+        }
     }
 }
 
