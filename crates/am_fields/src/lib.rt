@@ -16,6 +16,7 @@ mod groups;
 mod id_writer;
 mod ids;
 mod indexes;
+mod item_writer;
 mod keys;
 mod lent;
 mod listed;

@@ -2,20 +2,20 @@ use Rattle.std.proofs.Common.{arith}
 use Rattle.std.specs.Prelude.{replicate}
 use Rattle.std.proofs.lemmas.List.{length-replicate}
 use Rattle.am_runs.proofs.Parts.{behind_part, taken_part, none_on, none_both, enough_behind, room_part}
-use Rattle.am_fields.proofs.number_writer.NumberWriter.take.Goals as goal
+use Rattle.am_fields.proofs.item_writer.ItemWriter.take.Goals as goal
 
 pub push_alike-requires : goal.push_alike-requires
-push_alike-requires c =
+push_alike-requires g c =
     let inv = c.loop-left.invariant in
-    room_part c.args.self.now c.loop-left.self c.args.from.now c.args.n c.loop-left.left c.next_alike_within-number.result.1 c.next_alike_within-number.ensures.few inv.few c.requires.enough c.requires.room inv.none inv.written
+    room_part c.args.self.now c.loop-left.self (g.C.ItemColumn.items c.args.from.now) c.args.n c.loop-left.left c.give-value.result.1 c.give-value.ensures.few inv.few c.requires.enough c.requires.room inv.none inv.written
 
 pub loop-left-preserved : goal.loop-left-preserved
-loop-left-preserved c =
-    let count = c.next_alike_within-number.result.1 in
-    let next = c.next_alike_within-number.ensures in
+loop-left-preserved g c =
+    let count = c.give-value.result.1 in
+    let next = c.give-value.ensures in
     let inv = c.loop-left.invariant in
-    let part = replicate count c.next_alike_within-number.result.0 in
-    let size = length-replicate count c.next_alike_within-number.result.0 in
+    let part = replicate count (g.K.Lent.shown c.give-value.result.0) in
+    let size = length-replicate count (g.K.Lent.shown c.give-value.result.0) in
     record {
       few = omega (arith, inv.few);
       enough = enough_behind _ _ part _ count size inv.enough next.next;
