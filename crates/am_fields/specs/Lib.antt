@@ -14,3 +14,4 @@ pub mod Held
 pub mod Rooms
 pub mod Moving
 pub mod Front
+pub mod ColumnLaws
