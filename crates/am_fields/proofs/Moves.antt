@@ -1,24 +1,17 @@
 -- Places of one list of actors, written as those of another, and the numbers beside them.
-use Rattle.std.proofs.Common.{◌≡◌, ℕ, zero, suc, ◌-◌, ◌≤◌, ◌^◌, List, [], ◌∷◌, ◌++◌, length, map, take, drop, Option, Some, None, refl, sym, ap, ◌∙◌, subst, arith, slice_get}
+use Rattle.std.proofs.Common.{◌≡◌, ℕ, ◌-◌, ◌≤◌, ◌^◌, List, [], ◌∷◌, ◌++◌, length, map, take, drop, Option, Some, None, refl, sym, ap, ◌∙◌, subst, arith, slice_get}
 use Rattle.std.specs.Prelude.{replicate, IfSome, ℤ, pos}
 use Rattle.std.specs.Option.{option_map}
-use Rattle.std.specs.List.{AllByRecursion, zip}
 use Rattle.std.proofs.lemmas.Int.{ints}
-use Rattle.std.proofs.lemmas.List.{length-map, length-drop, length-take-le}
-use Rattle.am_types.specs.declared.Key.{Key}
+use Rattle.std.proofs.lemmas.List.{length-map, length-take-le}
 use Rattle.am_runs.proofs.Spelled.{map_take, map_drop}
 use Rattle.am_runs.proofs.Taken.{map_taken}
 use Rattle.am_delta.specs.Deltas.{AllBetween, AreMiddling}
 use Rattle.am_delta.proofs.Steps.{between_middling}
 use Rattle.am_fields.specs.Columns.{Name, place_of}
-use Rattle.am_fields.specs.Layout.{key_actor, key_counter, key_string}
-use Rattle.am_fields.specs.Limits.{IsKeyWithin}
-use Rattle.am_fields.specs.Fields.{key_read}
 use Rattle.am_fields.specs.Moving.{moved}
-use Rattle.am_fields.specs.Reading.{readings, AllRead}
-use Rattle.am_fields.proofs.Readings.{IsReading, reads_from, length-readings, readings-drop, AllRead-drop}
-use Rattle.am_fields.proofs.IdLaws.{keys_read, keys_between, key_numbers}
-use Rattle.am_fields.proofs.Zips.{zip_first, zip_second, map-map, map-id}
+use Rattle.am_fields.specs.Reading.{readings, AllRead, IsReading}
+use Rattle.am_fields.proofs.Readings.{reads_from, readings-drop, AllRead-drop}
 
 -- ---- by runs
 
@@ -80,62 +73,6 @@ are_moved known actors read actor number Within reading n xs xs' ys ys' shown al
       numbers = first_of number n ys (readings read xs ys) from.numbers ∙ ap (λ cs. map number (take n cs)) e;
       all = subst (λ l. AllRead read l ys') (sym p) (subst (AllRead read (drop n xs)) (sym q) rest);
       behind = ap (λ l. readings read l ys') p ∙ ap (readings read (drop n xs)) q ∙ readings-drop read n xs ys all ∙ ap (drop n) e;
-    }
-
--- ---- keys, of which two columns stand beside the places
-
-zip_drop : {A B : Type 0} (n : ℕ) (ys : List A) (zs : List B) → length ys ≡ length zs → zip (drop n ys) (drop n zs) ≡ drop n (zip ys zs)
-zip_drop zero ys zs e = refl
-zip_drop (suc n) [] [] e = refl
-zip_drop (suc n) [] (z ∷ zs) e = absurd (omega arith)
-zip_drop (suc n) (y ∷ ys) [] e = absurd (omega arith)
-zip_drop (suc n) (y ∷ ys) (z ∷ zs) e = zip_drop n ys zs (omega arith)
-
-pub record AreKeys (xs : List (Option ℕ)) (ys : List (Option ℤ)) (zs : List (Option (List ℕ))) (shown : List Key) : Type 0 where
-  pub few : length xs ≡ length shown
-  pub few_counters : length ys ≡ length shown
-  pub few_names : length zs ≡ length shown
-  pub counters : ys ≡ map key_counter shown
-  pub names : zs ≡ map key_string shown
-  pub middling : AreMiddling ys
-
-pub key_lists : (known : List (List ℕ)) (xs : List (Option ℕ)) (ys : List (Option ℤ)) (zs : List (Option (List ℕ))) (shown : List Key) → AllRead (key_read known) xs (zip ys zs) → length ys ≡ length zs → readings (key_read known) xs (zip ys zs) ≡ shown → AreKeys xs ys zs shown
-key_lists known xs ys zs shown all same e =
-    let from = reads_from known (key_read known) key_actor key_numbers IsKeyWithin (keys_read known) xs (zip ys zs) all in
-    let pairs : zip ys zs ≡ map key_numbers shown = from.numbers ∙ ap (map key_numbers) e in
-    let counters : ys ≡ map key_counter shown = sym (zip_first (λ y. y) ys zs same ∙ map-id ys) ∙ ap (map (λ p. p.0)) pairs ∙ map-map (λ p. p.0) key_numbers shown in
-    let names : zs ≡ map key_string shown = sym (zip_second (λ z. z) ys zs same ∙ map-id zs) ∙ ap (map (λ p. p.1)) pairs ∙ map-map (λ p. p.1) key_numbers shown in
-    let few : length xs ≡ length shown = sym (length-readings (key_read known) xs (zip ys zs) all) ∙ ap length e in
-    let within : AllByRecursion IsKeyWithin shown = subst (λ cs. AllByRecursion IsKeyWithin cs) e from.within in
-    record {
-      few = few;
-      few_counters = ap length counters ∙ length-map shown key_counter;
-      few_names = ap length names ∙ length-map shown key_string;
-      counters = counters;
-      names = names;
-      middling = subst AreMiddling (sym counters) (counters_middling _ (keys_between shown within));
-    }
-
-pub record KeysMoved (known actors : List (List ℕ)) (n : ℕ) (xs xs' : List (Option ℕ)) (ys ys' : List (Option ℤ)) (zs zs' : List (Option (List ℕ))) (shown : List Key) : Type 0 where
-  pub places : take n (map (moved known actors) xs) ≡ map (option_map (place_of actors)) (map key_actor (take n shown))
-  pub counters : take n ys ≡ map key_counter (take n shown)
-  pub names : take n zs ≡ map key_string (take n shown)
-  pub all : AllRead (key_read known) xs' (zip ys' zs')
-  pub same : length ys' ≡ length zs'
-  pub behind : readings (key_read known) xs' (zip ys' zs') ≡ drop n shown
-
-pub keys_moved : (known actors : List (List ℕ)) (n : ℕ) (xs xs' : List (Option ℕ)) (ys ys' : List (Option ℤ)) (zs zs' : List (Option (List ℕ))) (shown : List Key) → AllRead (key_read known) xs (zip ys zs) → length ys ≡ length zs → readings (key_read known) xs (zip ys zs) ≡ shown → xs' ≡ drop n xs → ys' ≡ drop n ys → zs' ≡ drop n zs → KeysMoved known actors n xs xs' ys ys' zs zs' shown
-keys_moved known actors n xs xs' ys ys' zs zs' shown all same e p q r =
-    let pairs : zip ys' zs' ≡ drop n (zip ys zs) = ap (λ l. zip l zs') q ∙ ap (zip (drop n ys)) r ∙ zip_drop n ys zs same in
-    let w = are_moved known actors (key_read known) key_actor key_numbers IsKeyWithin (keys_read known) n xs xs' (zip ys zs) (zip ys' zs') shown all e p pairs in
-    let lists = key_lists known xs ys zs shown all same e in
-    record {
-      places = w.places;
-      counters = first_of key_counter n ys shown lists.counters;
-      names = first_of key_string n zs shown lists.names;
-      all = w.all;
-      same = omega (arith, same, ap length q, ap length r, length-drop n ys, length-drop n zs);
-      behind = w.behind;
     }
 
 -- few of many are written

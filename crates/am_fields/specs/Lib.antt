@@ -15,3 +15,4 @@ pub mod Rooms
 pub mod Moving
 pub mod Front
 pub mod ColumnLaws
+pub mod RowLaws

@@ -1,4 +1,4 @@
-use Rattle.std.proofs.Common.{arith}
+use Rattle.std.proofs.Common.{arith, refl}
 use Rattle.am_fields.proofs.Copies.{are_copied, group_room, group_count}
 use Rattle.am_fields.proofs.groups.GroupColumns.skip.Goals as goal
 
@@ -11,10 +11,10 @@ pub skip_lengths-sum-requires-clause-few : goal.skip_lengths-sum-requires-clause
 skip_lengths-sum-requires-clause-few c = omega (arith, c.self.invariant, c.left-all.ensures)
 
 pub skip-requires : goal.skip-requires
-skip-requires c =
+skip-requires c = λ k.
     let at = c.self.inside in
     let w = group_room c.args.n c.skip_lengths-sum.result at.count at.ids _ c.self.invariant c.self.view_is c.skip_lengths-sum.ensures.total in
-    omega (arith, w.0)
+    ((refl, tt), omega (arith, w.0))
 
 pub invariant_of-self : goal.invariant_of-self
 invariant_of-self c =

@@ -1,4 +1,4 @@
-use Rattle.std.proofs.Common.{arith, sym, map, length, ◌∙◌}
+use Rattle.std.proofs.Common.{arith, refl, sym, map, length, ◌∙◌}
 use Rattle.std.proofs.lemmas.List.{length-map}
 use Rattle.am_fields.specs.Columns.{SpellsNumbers}
 use Rattle.am_fields.specs.Layout.{flat}
@@ -21,10 +21,10 @@ sum_of-total-requires c =
     omega (arith, told, few)
 
 pub spelled-ids-requires : goal.spelled-ids-requires
-spelled-ids-requires c =
+spelled-ids-requires c = λ k.
     let kn = c.requires.1 in
     let told = lengths-if_spelled c.args.group.now c.spelled-column.result c.spelled-column.ensures.spelled c.requires.0 kn.group_column (c.requires.2 ∙ sym c.spelled-column.ensures.count) in
-    (flat c.requires.0, kn.ids, sym told ∙ sym c.sum_of-total.ensures)
+    ((refl, tt), (flat c.requires.0, kn.ids, sym told ∙ sym c.sum_of-total.ensures))
 
 pub invariant_of-result : goal.invariant_of-result
 invariant_of-result c = sym c.sum_of-total.ensures ∙ sym c.spelled-ids.ensures.count

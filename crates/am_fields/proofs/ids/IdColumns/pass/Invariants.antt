@@ -1,5 +1,0 @@
-use Rattle.std.proofs.Common.{◌≡◌, ◌≤◌, drop}
-use Rattle.am_fields.proofs.ids.IdColumns.pass.Given as goal
-
-abbrev pub invariant-loop-passed : goal.invariant-loop-passed
-invariant-loop-passed l = (l._passed ≤ l.n) × (l.self ≡ drop l._passed l.initial.self)
