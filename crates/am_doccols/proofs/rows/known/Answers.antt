@@ -1,4 +1,4 @@
-use Rattle.std.proofs.Common.{◌≡◌, map, length, ◌∙◌, sym}
+use Rattle.std.proofs.Common.{◌≡◌, map, length, refl, ◌∙◌, sym}
 use Rattle.std.proofs.lemmas.List.{length-map}
 use Rattle.am_doccols.specs.Rows.{rows_from}
 use Rattle.am_doccols.proofs.RowLaws.{Even, fields_from, SpellsRows-made, objects_of, keys_of, ids_of, inserts_of, actions_of, values_of, succs_of, expands_of, marks_of, count_of}
@@ -8,10 +8,10 @@ pub spelled-actions-requires : goal.spelled-actions-requires
 spelled-actions-requires c = rw c.find-action.ensures (map (λ r. r.action) c.requires.0, actions_of c.args.actors.now c.args.columns.now c.requires.0 c.requires.1)
 
 pub spelled-objects-requires : goal.spelled-objects-requires
-spelled-objects-requires c =
+spelled-objects-requires c = λ k.
     let told = rw c.find-action.ensures at c.spelled-actions.ensures in
     let n : length c.requires.0 ≡ c.left-count.result = count_of c.args.actors.now c.args.columns.now c.requires.0 c.requires.1 c.spelled-actions.result told c.left-count.result c.left-count.ensures in
-    rw (c.find-object_actor.ensures, c.find-object_counter.ensures) (map (λ r. r.obj) c.requires.0, objects_of c.args.actors.now c.args.columns.now c.requires.0 c.requires.1, length-map c.requires.0 (λ r. r.obj) ∙ n)
+    rw (c.find-object_actor.ensures, c.find-object_counter.ensures) ((refl, tt), (map (λ r. r.obj) c.requires.0, objects_of c.args.actors.now c.args.columns.now c.requires.0 c.requires.1, length-map c.requires.0 (λ r. r.obj) ∙ n))
 
 pub spelled-keys-requires : goal.spelled-keys-requires
 spelled-keys-requires c =
@@ -20,10 +20,10 @@ spelled-keys-requires c =
     rw (c.find-key_actor.ensures, c.find-key_counter.ensures, c.find-key_name.ensures) (map (λ r. r.key) c.requires.0, keys_of c.args.actors.now c.args.columns.now c.requires.0 c.requires.1, length-map c.requires.0 (λ r. r.key) ∙ n)
 
 pub spelled-ids-requires : goal.spelled-ids-requires
-spelled-ids-requires c =
+spelled-ids-requires c = λ k.
     let told = rw c.find-action.ensures at c.spelled-actions.ensures in
     let n : length c.requires.0 ≡ c.left-count.result = count_of c.args.actors.now c.args.columns.now c.requires.0 c.requires.1 c.spelled-actions.result told c.left-count.result c.left-count.ensures in
-    rw (c.find-id_actor.ensures, c.find-id_counter.ensures) (map (λ r. r.id) c.requires.0, ids_of c.args.actors.now c.args.columns.now c.requires.0 c.requires.1, length-map c.requires.0 (λ r. r.id) ∙ n)
+    rw (c.find-id_actor.ensures, c.find-id_counter.ensures) ((refl, tt), (map (λ r. r.id) c.requires.0, ids_of c.args.actors.now c.args.columns.now c.requires.0 c.requires.1, length-map c.requires.0 (λ r. r.id) ∙ n))
 
 pub spelled-inserts-requires : goal.spelled-inserts-requires
 spelled-inserts-requires c =

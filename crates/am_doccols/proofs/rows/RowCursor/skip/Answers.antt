@@ -1,26 +1,27 @@
+use Rattle.std.proofs.Common.{refl}
 use Rattle.am_doccols.proofs.RowsTaken.{cursor_fields, as_many, fields_behind, still_even}
 use Rattle.am_doccols.proofs.rows.RowCursor.skip.Goals as goal
 
 pub skip-requires : goal.skip-requires
-skip-requires c =
+skip-requires c = λ k.
     let inv = c.self.invariant in
     let at = c.self.inside in
     let all = cursor_fields c.args.self.now at.objects at.keys at.ids at.inserts at.actions at.values at.succs at.expands at.marks inv.0 inv.1 inv.2 inv.3 inv.4 inv.5 inv.6 inv.7 c.self.view_is in
-    (as_many c.args.n c.args.self.now _ _ _ _ _ _ _ _ _ all c.requires).objects
+    ((refl, tt), (as_many c.args.n c.args.self.now _ _ _ _ _ _ _ _ _ all c.requires).objects)
 
 pub skip-requires-2 : goal.skip-requires-2
-skip-requires-2 c =
+skip-requires-2 c = λ k.
     let inv = c.self.invariant in
     let at = c.self.inside in
     let all = cursor_fields c.args.self.now at.objects at.keys at.ids at.inserts at.actions at.values at.succs at.expands at.marks inv.0 inv.1 inv.2 inv.3 inv.4 inv.5 inv.6 inv.7 c.self.view_is in
-    (as_many c.args.n c.args.self.now _ _ _ _ _ _ _ _ _ all c.requires).keys
+    ((refl, tt), (as_many c.args.n c.args.self.now _ _ _ _ _ _ _ _ _ all c.requires).keys)
 
 pub skip-requires-3 : goal.skip-requires-3
-skip-requires-3 c =
+skip-requires-3 c = λ k.
     let inv = c.self.invariant in
     let at = c.self.inside in
     let all = cursor_fields c.args.self.now at.objects at.keys at.ids at.inserts at.actions at.values at.succs at.expands at.marks inv.0 inv.1 inv.2 inv.3 inv.4 inv.5 inv.6 inv.7 c.self.view_is in
-    (as_many c.args.n c.args.self.now _ _ _ _ _ _ _ _ _ all c.requires).ids
+    ((refl, tt), (as_many c.args.n c.args.self.now _ _ _ _ _ _ _ _ _ all c.requires).ids)
 
 pub skip-requires-4 : goal.skip-requires-4
 skip-requires-4 c =
