@@ -1,6 +1,6 @@
-use Rattle.std.proofs.Common.{◌≡◌, ◌∷◌, ℕ, List, Option, Some, None, sym, subst}
+use Rattle.std.proofs.Common.{ℕ, List, sym, subst}
 use Rattle.am_fields.specs.Reading.{AllRead}
-use Rattle.am_fields.proofs.Readings.{AllRead-next, item_next}
+use Rattle.am_fields.proofs.Readings.{AllRead-next}
 use Rattle.am_fields.proofs.placed.PlacedColumns.next.Goals as goal
 
 pub invariant_of-self : goal.invariant_of-self

@@ -1,4 +1,4 @@
-use Rattle.std.proofs.Common.{◌≡◌, List, length, refl, ap, sym, subst, ◌∙◌}
+use Rattle.std.proofs.Common.{◌≡◌, length, refl, ap, sym, subst, ◌∙◌}
 use Rattle.am_fields.specs.Reading.{readings, AllRead}
 use Rattle.am_fields.specs.Spelling.{SpellsPlaced}
 use Rattle.am_fields.proofs.Filled.{OnErr-from, OnErr-map, IfOk-both}
