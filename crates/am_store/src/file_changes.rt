@@ -1,5 +1,5 @@
 //! The changes of a file, as far as it is read.
-ghost use Rattle.std.specs.Prelude.{◌≡◌, ◌++◌, ◌∷◌, [], OnOk, vec_items};
+ghost use Rattle.std.specs.Prelude.{◌≡◌, ◌++◌, ◌∷◌, [], None, OnOk, vec_items};
 ghost use Rattle.am_types.specs.Members.{changes};
 ghost use Rattle.am_types.specs.Operations.{all_operations};
 ghost use Rattle.am_types.specs.Rows.{rows};
@@ -54,6 +54,13 @@ pub fn entries_of(document: Rebuilt) -> Vec<(Hash, Change)>
     document.entries
 }
 
+// What was built is let go.
+fn let_go(built: &mut Option<Built<'_>>)
+    ensures { built.new ≡ None }
+{
+    *built = None;
+}
+
 impl<'a> FileChanges<'a> {
     /// Nothing is read yet.
     pub fn new(alloc: Global) -> FileChanges<'a>
@@ -69,7 +76,7 @@ impl<'a> FileChanges<'a> {
     pub fn push(&mut self, hash: Hash, change: Change) -> Result<(), AllocError>
         ensures { OnOk result (self.new ≡ self.old ++ (hash, change) ∷ []) }
     {
-        self.built = None;
+        let_go(&mut self.built);
         self.entries.push((hash, change))?;
         Ok(())
     }
@@ -109,7 +116,7 @@ impl<'a> FileChanges<'a> {
     fn go_on(&mut self, mut more: Vec<(Hash, Change)>) -> Result<(), AllocError>
         ensures { OnOk result (self.new ≡ self.old ++ vec_items more) }
     {
-        self.built = None;
+        let_go(&mut self.built);
         self.entries.append(&mut more)?;
         Ok(())
     }

@@ -1,4 +1,5 @@
-use Rattle.std.proofs.Common.{rules, ◌+◌, subst, sym, refl, arith}
+use Rattle.std.proofs.Common.{rules, ℕ, List, [], ◌∷◌, false, length, ◌≡◌, ◌==◌, ◌<◌, ◌+◌, subst, sym, refl, arith}
+use Rattle.std.proofs.lemmas.Bool.Decides.{nat_tests}
 use Rattle.am_store.specs.Files.{FirstBad}
 use Rattle.am_store.specs.Reading.{HasRead}
 use Rattle.am_store.proofs.ReadSteps.{match_weaker, nothing_read, read_more, first_bad}
@@ -20,8 +21,12 @@ chunks-preserved c =
       few = omega arith;
     }
 
+some_left : (xs : List ℕ) → false ≡ (length xs == 0) → 0 < length xs
+some_left [] e = absurd (grind (arith, nat_tests))
+some_left (x ∷ xs) e = omega arith
+
 pub returns-in-Err-clause-load : goal.returns-in-Err-clause-load
 returns-in-Err-clause-load c =
     match_weaker c.refused.result _ _
-    (λ e h. subst (λ k. FirstBad c.args.only_changes c.args.bytes.now k e.fault) (sym h.0) (first_bad c.args.only_changes c.args.bytes.now c.chunks.rest.now c.chunks.changes c.chunks.number e.fault c.chunks.invariant.read (search rules) h.1))
+    (λ e h. subst (λ k. FirstBad c.args.only_changes c.args.bytes.now k e.fault) (sym h.0) (first_bad c.args.only_changes c.args.bytes.now c.chunks.rest.now c.chunks.changes c.chunks.number e.fault c.chunks.invariant.read (some_left c.chunks.rest.now c.chunks-test.ensures) h.1))
     (c.refused.ensures c.args.only_changes c.chunks.rest.now c.in-Err.ensures.bad)
