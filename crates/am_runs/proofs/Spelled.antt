@@ -8,7 +8,7 @@ use Rattle.am_leb.proofs.Answering.{IsBytes}
 use Rattle.am_runs.specs.Items.{IsItem, unsigned_end, signed_end, text_end, text_spelling, text_of}
 use Rattle.am_runs.specs.Runs.{Run, Repeat, Literal, Nulls, expansion, bytes_of, JoinsRuns}
 use Rattle.am_runs.specs.Typed.{AllItems, JoinsUnsigned, JoinsSigned}
-use Rattle.am_runs.specs.ItemLaws.{unsigned_reads, signed_reads, unsigned_again, signed_again}
+use Rattle.am_runs.specs.ItemLaws.{unsigned_reads, signed_reads, signed_again}
 use Rattle.am_runs.proofs.Unique.{one_list}
 use Rattle.am_runs.proofs.Opening.{joined}
 use Rattle.am_runs.proofs.ItemsOf.{JoinsRuns-items}
@@ -75,9 +75,6 @@ text_again x f e = let w = text_is x f e in ap text_spelling (ap text_of w.3 ∙
 
 pub joins_again : {A : Type 0} (end : List ℕ → Option ℕ) (read : List ℕ → A) (spell : A → List ℕ) → ((x : List ℕ) → IsBytes x → IsItem end x → spell (read x) ≡ x) → (bytes : List ℕ) (list : List (Option (List ℕ))) → IsBytes bytes → JoinsRuns end bytes list → JoinsRuns end bytes (map (option_map spell) (map (option_map read) list))
 joins_again end read spell again bytes list f j = subst (JoinsRuns end bytes) (sym (respelled end read spell again list (JoinsRuns-items end bytes list j) (bytes_of_entries end bytes list f j))) j
-
-pub joins_unsigned : (bytes : List ℕ) (list : List (Option (List ℕ))) → IsBytes bytes → JoinsRuns unsigned_end bytes list → JoinsRuns unsigned_end bytes (map (option_map uleb) (map (option_map unsigned_value) list))
-joins_unsigned = joins_again unsigned_end unsigned_value uleb unsigned_again
 
 pub joins_signed : (bytes : List ℕ) (list : List (Option (List ℕ))) → IsBytes bytes → JoinsRuns signed_end bytes list → JoinsRuns signed_end bytes (map (option_map leb) (map (option_map signed_value) list))
 joins_signed = joins_again signed_end signed_value leb signed_again

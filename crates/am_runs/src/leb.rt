@@ -50,7 +50,8 @@ pub trait Number {
     ghost respelled: { (item : List ℕ) → ((i : ℕ) → get_or item i 0 < 256) → IsItem end_of item → spelling (value_of item) ≡ item };
 }
 
-/// Numbers below 2^64, each in its shortest LEB128.
+/// Numbers below 2^64, each in its shortest LEB128. What their runs join is `JoinsUnsigned`, which says
+/// `JoinsRuns` of the numbers in place of their spellings.
 pub struct Unsigned;
 
 impl Number for Unsigned {
@@ -93,7 +94,7 @@ impl Number for Unsigned {
     }
 }
 
-/// Numbers from -2^63 up to 2^63 - 1, each in its shortest signed LEB128.
+/// Numbers from -2^63 up to 2^63 - 1, each in its shortest signed LEB128. What their runs join is `JoinsSigned`.
 pub struct Signed;
 
 impl Number for Signed {

@@ -1,5 +1,5 @@
 //! Writing the columns of values.
-ghost use Rattle.std.specs.Prelude.{◌≡◌, ◌+◌, ◌<◌, ◌≤◌, ◌^◌, ◌++◌, ◌∷◌, [], Some, None, length, take, drop, replicate, IfOk, IfSome, IfNone, OnOk, OnErr, IsErr};
+ghost use Rattle.std.specs.Prelude.{◌≡◌, ◌+◌, ◌<◌, ◌≤◌, ◌^◌, ◌++◌, ◌∷◌, [], Some, None, length, take, drop, replicate, IfOk, IfSome, IfNone, OnOk, OnErr, IsErr, true, false};
 ghost use Rattle.am_types.specs.Values.{Good};
 ghost use Rattle.am_types.specs.Views.{value_of};
 ghost use Rattle.am_values.specs.Columns.{metadata, null_value, given, CanonValues};
@@ -17,6 +17,18 @@ fn metadata_of(value: ValueRef<'_>) -> u64
     ensures { result ≡ metadata (value_of value.entry) }
 {
     u64::from(value.kind) + 16 * value.raw.len() as u64
+}
+
+// Memory is taken to be wanted until what follows has ended; an error where it was.
+fn begin(failed: &mut bool) -> Result<(), AllocError>
+    ensures ok { OnOk result ((failed.old ≡ false) × (failed.new ≡ true)) }
+    ensures err { OnErr result ((failed.old ≡ true) × (failed.new ≡ true)) }
+{
+    if *failed {
+        return Err(AllocError);
+    }
+    *failed = true;
+    Ok(())
 }
 
 /// Writes values into their two columns. A contract sees the values that were pushed, or None once memory was wanted: it
@@ -63,10 +75,7 @@ impl ValueWriter {
         ensures ok { OnOk result (IfSome self.old (λ values. self.new ≡ Some (values ++ value_of value.entry ∷ []))) }
         ensures err { OnErr result (self.new ≡ None) }
     {
-        if self.failed {
-            return Err(AllocError);
-        }
-        self.failed = true;
+        begin(&mut self.failed)?;
         put_alike(&mut self.numbers, &mut self.item, metadata_of(value), 1)?;
         self.raw.extend_from_slice(value.raw)?;
         self.failed = false;
@@ -80,10 +89,7 @@ impl ValueWriter {
         ensures ok { OnOk result (IfSome self.old (λ values. self.new ≡ Some (values ++ replicate count null_value))) }
         ensures err { OnErr result (self.new ≡ None) }
     {
-        if self.failed {
-            return Err(AllocError);
-        }
-        self.failed = true;
+        begin(&mut self.failed)?;
         put_alike(&mut self.numbers, &mut self.item, 0, count)?;
         self.failed = false;
         Ok(())
@@ -99,10 +105,7 @@ impl ValueWriter {
         ensures behind { OnOk result (from.new ≡ drop n from.old) }
         ensures err { OnErr result (self.new ≡ None) }
     {
-        if self.failed {
-            return Err(AllocError);
-        }
-        self.failed = true;
+        begin(&mut self.failed)?;
         let raw = from.give(n, &mut self.numbers, &mut self.item)?;
         self.raw.extend_from_slice(raw)?;
         self.failed = false;
