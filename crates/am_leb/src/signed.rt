@@ -110,7 +110,8 @@ fn first_number(bytes: &[u8]) -> Result<(i64, usize), LebFault>
     }
 }
 
-/// The signed number that stands first in the bytes, and how many bytes it takes there.
+/// The signed number that stands first in the bytes, and how many bytes it takes there. Where none does, a `LebFault`
+/// says why.
 #[inline(always)]
 pub fn read_i(bytes: &[u8]) -> Result<(i64, usize), LebFault>
     ensures found { IfOk result (λ r. FitsSigned w64 r.0 × (r.1 ≤ length bytes.now) × IsLeb (take r.1 bytes.now) r.0) }

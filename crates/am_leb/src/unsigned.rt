@@ -70,7 +70,8 @@ fn first_number(bytes: &[u8]) -> Result<(u64, usize), LebFault>
     }
 }
 
-/// The unsigned number that stands first in the bytes, and how many bytes it takes there.
+/// The unsigned number that stands first in the bytes, and how many bytes it takes there. Where none does, a `LebFault`
+/// says why.
 #[inline(always)]
 pub fn read_u(bytes: &[u8]) -> Result<(u64, usize), LebFault>
     ensures found { IfOk result (λ r. (r.0 < 2 ^ 64) × (r.1 ≤ length bytes.now) × IsUleb (take r.1 bytes.now) r.0) }
