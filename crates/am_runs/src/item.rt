@@ -12,7 +12,7 @@ use std::marker::PhantomData;
 
 /// A kind of item, known by where its spellings end.
 pub trait Item {
-    /// The length of the item that begins the bytes.
+    /// The length of the item that begins the bytes; None where none does.
     ghost end_of: { List ℕ → Option ℕ };
 
     /// How many bytes the item takes that begins the bytes; nothing where none does.
@@ -27,6 +27,7 @@ pub trait Item {
         None
     }
 
+    /// What is found is an item, and an item is found again whatever follows it.
     ghost reads: { ReadsItems end_of };
 }
 

@@ -6,12 +6,14 @@ ghost use Rattle.am_runs.specs.Items.{ReadsItems, IsItem, IsLast};
 use crate::value::low_number;
 use am_leb::{read_i, read_u};
 
-/// A kind of number, known by how numbers are spelled. The spellings are items.
+/// A kind of number, known by how numbers are spelled. Bytes join numbers of the kind where
+/// `JoinsRuns end_of bytes (map (option_map spelling) values)` holds (specs/Runs.antt): they are the bytes of runs
+/// whose items are the spellings, and a null is None.
 pub trait Number {
     /// What an item spells.
     type Value: Copy;
 
-    /// The length of the number that begins the bytes.
+    /// The length of the number that begins the bytes; None where none does.
     ghost end_of: { List ℕ → Option ℕ };
 
     /// The number that an item spells.
@@ -39,8 +41,10 @@ pub trait Number {
         requires inside { i < length bytes.now }
         ensures ends { result ≡ false → IsLast bytes.now start i → end_of (drop start bytes.now) ≡ Some (suc (i - start)) };
 
+    /// What is found is an item, and an item is found again whatever follows it.
     ghost reads: { ReadsItems end_of };
 
+    /// In no bytes there is no number.
     ghost nothing: { None ≡ end_of [] };
 
     /// A byte below 128 is a number by itself.
@@ -50,8 +54,8 @@ pub trait Number {
     ghost respelled: { (item : List ℕ) → ((i : ℕ) → get_or item i 0 < 256) → IsItem end_of item → spelling (value_of item) ≡ item };
 }
 
-/// Numbers below 2^64, each in its shortest LEB128. What their runs join is `JoinsUnsigned`, which says
-/// `JoinsRuns` of the numbers in place of their spellings.
+/// Numbers below 2^64, each in its shortest LEB128. Bytes join them as `JoinsUnsigned` says (specs/Typed.antt):
+/// `end_of` is `unsigned_end`, `spelling` is `uleb`.
 pub struct Unsigned;
 
 impl Number for Unsigned {
@@ -94,7 +98,8 @@ impl Number for Unsigned {
     }
 }
 
-/// Numbers from -2^63 up to 2^63 - 1, each in its shortest signed LEB128. What their runs join is `JoinsSigned`.
+/// Numbers from -2^63 up to 2^63 - 1, each in its shortest signed LEB128. Bytes join them as `JoinsSigned` says
+/// (specs/Typed.antt): `end_of` is `signed_end`, `spelling` is `leb`.
 pub struct Signed;
 
 impl Number for Signed {

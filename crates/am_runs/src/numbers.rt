@@ -15,7 +15,8 @@ use crate::leb::{Number, Signed, Unsigned};
 use crate::number::{literal_number, number_of, opened};
 use std::marker::Model;
 
-/// The numbers of a column, one after another.
+/// The numbers of a column, one after another. A contract sees those that are left, a null as None. `K` is `Unsigned`
+/// or `Signed`.
 #[derive(Drop)]
 pub struct NumberCursor<'a, K: Number> {
     at: Counters<'a>,
@@ -23,10 +24,12 @@ pub struct NumberCursor<'a, K: Number> {
     value: Option<K::Value>,
 }
 
-/// The unsigned numbers of a column, one after another.
+/// The unsigned numbers of a column, one after another. In its clauses
+/// `JoinsRuns K.end_of bytes (map (option_map K.spelling) values)` is `JoinsUnsigned bytes values`.
 pub type UnsignedCursor<'a> = NumberCursor<'a, Unsigned>;
 
-/// The signed numbers of a column, one after another.
+/// The signed numbers of a column, one after another. In its clauses
+/// `JoinsRuns K.end_of bytes (map (option_map K.spelling) values)` is `JoinsSigned bytes values`.
 pub type SignedCursor<'a> = NumberCursor<'a, Signed>;
 
 impl<'a, K: Number> Model for NumberCursor<'a, K> {
