@@ -34,6 +34,7 @@ pub trait Cells: Drop {
     fn again(&self) -> Self
         ensures { cells result ≡ cells self.now };
 
+    /// A row reads as `rows` says.
     ghost reads: { (actors : List (List ℕ)) → IsReading actors (rows.read actors) rows.actor_of rows.cell_of rows.Within };
 }
 

@@ -7,7 +7,7 @@ use am_types::Bytes;
 use std::alloc::{AllocError, Global};
 
 /// The metadata and the bytes of these columns, each a specification and its bytes, ascending. Columns without bytes
-/// aren't listed.
+/// aren't listed. An error says that memory was wanted.
 pub fn columns_of(alloc: Global, columns: &[(u64, Bytes)]) -> Result<(Bytes, Bytes), AllocError>
     requires { Ascend (listing columns.now) }
     ensures metadata { IfOk result (λ text. text.0 ≡ metadata (listing (not_empty columns.now))) }

@@ -8,7 +8,8 @@ use crate::item_cursor::{Opened, Runs};
 use std::marker::Model;
 
 /// The items of a column, one a row; blanks where the column is left out. A run of equal items is read once: then a number
-/// tells how many like its first are to come.
+/// tells how many like its first are to come. Its bytes spell the items as `Fills C.joins C.blank` says
+/// (specs/Filling.antt).
 #[derive(Drop)]
 pub struct CountedColumn<V, C: Runs<V> + Drop> {
     // what comes next, so many times, before the others
@@ -105,7 +106,7 @@ impl<V, C: Runs<V> + Drop> CountedColumn<V, C> {
 }
 
 impl<'a, V, C: Opened<'a, V> + Drop> CountedColumn<V, C> {
-    /// The column that has this many items, or is left out.
+    /// The column that has this many items, or is left out. `BadFields` where the bytes spell no such list.
     pub fn over(bytes: &'a [u8], count: u64) -> Result<Self, BadFields>
         ensures spelled { IfOk result (Fills C.joins C.blank bytes.now) }
         ensures count { IfOk result (λ c. length c ≡ count) }

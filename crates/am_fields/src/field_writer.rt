@@ -17,9 +17,11 @@ pub struct Fields<'a> {
     pub obj: ObjRef<'a>,
     pub key: KeyRef<'a>,
     pub insert: bool,
+    /// 0 makeMap, 1 set, 2 makeList, 3 del, 4 makeText, 5 inc, 6 makeTable, 7 mark.
     pub action: u8,
     pub value: ValueRef<'a>,
     pub expand: bool,
+    /// The mark's name, if there is one.
     pub mark: Option<&'a str>,
 }
 
@@ -48,7 +50,9 @@ pub struct FieldText {
     pub key_name: Bytes,
     pub insert: Bytes,
     pub action: Bytes,
+    /// The kinds and lengths of the values.
     pub numbers: Bytes,
+    /// Their bytes.
     pub raw: Bytes,
     pub expand: Bytes,
     pub mark: Bytes,
@@ -81,7 +85,8 @@ impl FieldWriter {
         }
     }
 
-    /// Appends the fields of one more. The places of actors are those among these actors.
+    /// Appends the fields of one more. The places of actors are those among these actors. An error says that memory was
+    /// wanted.
     pub fn push(&mut self, actors: &ListedActors<'_>, fields: Fields<'_>) -> Result<(), AllocError>
         requires room { FieldsHaveRoom self.old }
         requires key { IsKey (key_of fields.key) }
@@ -101,7 +106,7 @@ impl FieldWriter {
     }
 
     /// Takes the fields of the next n out of their columns, as that many pushes, by runs. The places of actors are those
-    /// among these actors.
+    /// among these actors. An error says that memory was wanted.
     pub fn take(
         &mut self,
         actors: &ListedActors<'_>,
@@ -129,7 +134,7 @@ impl FieldWriter {
     }
 
     /// The columns, each in its one canonical spelling: those of flags that are always listed with runs of both values,
-    /// and those that are left out where all are false.
+    /// and those that are left out where all are false. An error says that memory was wanted.
     pub fn finish(self) -> Result<FieldText, AllocError>
         requires { AreShort self }
         ensures { IfOk result (λ text. (actors : List (List ℕ)) (x : FieldLists) → FieldsHeld actors x self → FieldsFit x → FieldsSpelled actors x text) }

@@ -6,7 +6,8 @@ use crate::fault::BadFields;
 use crate::item_cursor::{Opened, Runs, Spelled};
 use std::marker::{Model, PhantomData};
 
-/// The items of a column, one a row; blanks where the column is left out.
+/// The items of a column, one a row; blanks where the column is left out. Its bytes spell the items as
+/// `Fills C.joins C.blank` says (specs/Filling.antt).
 #[derive(Drop)]
 pub struct FilledColumn<V, C: Spelled<V> + Drop> {
     pub(crate) cursor: C,
@@ -140,7 +141,7 @@ impl<V, C: Runs<V> + Drop> FilledColumn<V, C> {
 }
 
 impl<'a, V, C: Opened<'a, V> + Drop> FilledColumn<V, C> {
-    /// The column that has this many items, or is left out.
+    /// The column that has this many items, or is left out. `BadFields` where the bytes spell no such list.
     pub fn over(bytes: &'a [u8], count: u64) -> Result<Self, BadFields>
         ensures spelled { IfOk result (Fills C.joins C.blank bytes.now) }
         ensures count { IfOk result (λ c. length c ≡ count) }

@@ -74,7 +74,7 @@ impl IdWriter {
         }
     }
 
-    /// Appends an id. The place of its actor is that among these actors.
+    /// Appends an id. The place of its actor is that among these actors. An error says that memory was wanted.
     pub fn push(&mut self, actors: &ListedActors<'_>, id: IdRef<'_>) -> Result<(), AllocError>
         requires places { IsOpen self.old.places }
         requires counters { IsOpen self.old.counters }
@@ -84,7 +84,7 @@ impl IdWriter {
         push_id(&mut self.places, &mut self.counters, actors, id)
     }
 
-    /// Appends ids.
+    /// Appends ids. An error says that memory was wanted.
     pub fn push_all(&mut self, actors: &ListedActors<'_>, ids: &[OpId]) -> Result<(), AllocError>
         requires places { IfSome self.old.places (λ xs. length xs + length ids.now ≤ 2 ^ 32) }
         requires counters { IfSome self.old.counters (λ xs. length xs + length ids.now ≤ 2 ^ 32) }
@@ -95,7 +95,7 @@ impl IdWriter {
     }
 
     /// Takes the next n ids out of the columns, as that many pushes, by runs. The place of an actor is that among these
-    /// actors.
+    /// actors. An error says that memory was wanted.
     pub fn take(
         &mut self,
         actors: &ListedActors<'_>,
@@ -111,7 +111,8 @@ impl IdWriter {
         from.copy_to(&mut self.places, &mut self.counters, actors, n)
     }
 
-    /// The column of places and that of counters, each in its one canonical spelling.
+    /// The column of places and that of counters, each in its one canonical spelling. An error says that memory was
+    /// wanted.
     pub fn finish(self) -> Result<(Bytes, Bytes), AllocError>
         requires { IsShort self.places }
         ensures { IfOk result (λ text. (actors : List (List ℕ)) (ids : List OpId) → IdsHeld actors ids self → IdsFit ids → IdsSpelled actors ids text.0 text.1) }

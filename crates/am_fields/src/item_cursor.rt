@@ -39,8 +39,10 @@ pub trait Spelled<V> {
     fn again(&self) -> Self
         ensures { items result ≡ items self.now };
 
+    /// Bytes join one list at most.
     ghost one: { (bytes : List ℕ) (xs ys : List V) → joins bytes xs → joins bytes ys → xs ≡ ys };
 
+    /// What no bytes join is the list of no items.
     ghost nothing: { joins [] [] };
 }
 

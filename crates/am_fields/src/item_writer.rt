@@ -30,6 +30,7 @@ pub trait Lent<V: Copy>: Written {
         ensures ok { OnOk result (option_map (λ x. to.old.items ++ Self.code x) (shown (Some value)) ≡ Some to.new.items) }
         ensures told { OnOk result (IfSome (shown (Some value)) (IsTold Self.end_of Self.code Self.value_of)) };
 
+    /// A null is shown as a null.
     ghost nothing: { shown None ≡ None };
 }
 
@@ -100,7 +101,7 @@ impl<K: Written> ItemWriter<K> {
         }
     }
 
-    /// The one canonical spelling of the items.
+    /// The one canonical spelling of the items. An error says that memory was wanted, now or before.
     pub fn finish(self) -> Result<Bytes, AllocError>
         requires { IfSome self (λ items. length items ≤ 2 ^ 32) }
         ensures failed { IfNone self (IsErr result) }
@@ -112,7 +113,7 @@ impl<K: Written> ItemWriter<K> {
         self.runs.finish()
     }
 
-    /// Appends an item.
+    /// Appends an item. An error says that memory was wanted, now or before.
     pub fn push<V: Copy>(&mut self, value: Option<V>) -> Result<(), AllocError>
     where
         K: Lent<V>,
@@ -124,7 +125,8 @@ impl<K: Written> ItemWriter<K> {
         self.push_alike(value, 1)
     }
 
-    /// Appends the item so many times, as that many pushes, in a few steps.
+    /// Appends the item so many times, as that many pushes, in a few steps. An error says that memory was wanted, now
+    /// or before.
     pub fn push_alike<V: Copy>(&mut self, value: Option<V>, count: u64) -> Result<(), AllocError>
     where
         K: Lent<V>,
@@ -142,7 +144,8 @@ impl<K: Written> ItemWriter<K> {
         Ok(())
     }
 
-    /// Takes the next n items out of the column, as that many pushes, by runs.
+    /// Takes the next n items out of the column, as that many pushes, by runs. An error says that memory was wanted,
+    /// now or before.
     pub fn take<V: Copy, C: ItemColumn<K, V>>(
         &mut self,
         from: &mut C,

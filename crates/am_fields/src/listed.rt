@@ -121,7 +121,7 @@ impl<'a> ListedActors<'a> {
     }
 }
 
-/// The same of a list that is owned.
+/// The actors that places name, in a list that is owned, with what is known of their order. A contract sees the list.
 #[derive(Drop)]
 pub struct OwnedActors {
     actors: List<ActorId>,

@@ -14,7 +14,8 @@ use crate::numbers::NumberColumn;
 use std::alloc::AllocError;
 use std::marker::Model;
 
-/// Items, one a row, each read of the place of its actor and what stands beside.
+/// Items, one a row, each read of the place of its actor and what stands beside. What they spell, where one column of
+/// counters is beside, is `SpellsPlaced` (specs/Spelling.antt).
 #[derive(Drop)]
 pub struct PlacedColumns<'a, B: Cells> {
     pub(crate) actor: NumberColumn<'a>,
@@ -147,7 +148,8 @@ impl<'a, B: Beside<'a>> PlacedColumns<'a, B> {
 }
 
 impl<'a, C: Counters<'a>> PlacedColumns<'a, C> {
-    /// The two columns that have this many items, each within its limits.
+    /// The two columns that have this many items, each within its limits. `BadFields` where the bytes spell no such
+    /// list.
     pub fn over(
         actor: &'a [u8],
         counter: &'a [u8],
@@ -175,7 +177,7 @@ impl<'a, C: Counters<'a>> PlacedColumns<'a, C> {
     }
 
     /// Appends the next n items to the writers of places and of counters, by runs. The place of an actor is that among
-    /// these actors.
+    /// these actors. An error says that memory was wanted.
     pub fn copy_to(
         &mut self,
         places: &mut NumberWriter,
