@@ -8,10 +8,10 @@ use Rattle.std.proofs.lemmas.Bool.{cases_lt}
 use Rattle.std.proofs.lemmas.List.{take-append-drop, take_at, take_all, length-take-le, get_or-take}
 use Rattle.am_leb.specs.declared.fault.LebFault.{LebFault}
 use Rattle.am_leb.specs.declared.fault.LebFault.TheVariants.{Short, Long, Large}
-use Rattle.am_leb.specs.Leb.{IsLeb, leb, ends_negative, signed_value, unsigned_value, IsUleb, uleb, BeginsWith}
+use Rattle.am_leb.specs.Leb.{leb, ends_negative, signed_value, unsigned_value, IsUleb, uleb, BeginsWith}
 use Rattle.am_leb.specs.Reading.{end_within, end_or_fault, judged, unsigned_at, first_unsigned, signed_at, judged_signed, first_signed, magnitude, from_magnitude}
 use Rattle.am_leb.proofs.Laws.{IsUleb-from_length, IsUleb-is_uleb, uleb_is, length_uleb-le}
-use Rattle.am_leb.proofs.SignedLaws.{leb_is, leb_spells, length_leb, length_leb-le, IsLeb-is_leb, IsLeb-from_length, signed_value-magnitude}
+use Rattle.am_leb.proofs.SignedLaws.{leb_spells, length_leb, length_leb-le, IsLeb-is_leb, IsLeb-from_length, signed_value-magnitude}
 use Rattle.am_leb.proofs.Ends.{IsEnd-from_within, end_within-none, end_within-high, end_within-spelling, end_within-front}
 
 abbrev pub IsBytes : List ℕ → Type 0
@@ -234,10 +234,6 @@ first_signed-is bytes z len f r = elim (end_within 10 bytes) as (λ o. end_withi
       subst (λ k. (take k bytes ≡ leb z) × (k ≤ length bytes)) (sym w.3) (subst (λ y. take m bytes ≡ leb y) v (IsLeb-is_leb s _ u), d.inside)
 ]
     refl r
-
-pub signed_found : (bytes : List ℕ) (r : Result (ℤ × ℕ) LebFault) → IsBytes bytes → r ≡ first_signed bytes → IfOk r (λ x. (x.1 ≤ length bytes) × IsLeb (take x.1 bytes) x.0)
-signed_found bytes (Err d) f e = tt
-signed_found bytes (Ok x) f e = let w = first_signed-is bytes x.0 x.1 f (sym e) in (w.1, subst (λ s. IsLeb s x.0) (sym w.0) (leb_is x.0))
 
 -- the number that was read fits 64 bits
 pub first_signed-fits : (bytes : List ℕ) (z : ℤ) (len : ℕ) → first_signed bytes ≡ Ok (z, len) → (negative : Bool) × (n : ℕ) × (n < 2 ^ 63) × (z ≡ from_magnitude negative n)

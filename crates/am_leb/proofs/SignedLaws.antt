@@ -201,9 +201,6 @@ unfolding leb
 length_leb false n = refl
 length_leb true n = same_length n n
 
-pub digit-below : (negative : Bool) (b : ℕ) → digit negative b < 128
-digit-below = digit-lt
-
 pub magnitude-bound : (negative : Bool) (bytes : List ℕ) → magnitude negative bytes < 128 ^ length bytes
 magnitude-bound negative [] = omega arith
 magnitude-bound negative (b ∷ bytes) = rw pow-succ' (omega (arith, digit-lt negative b, magnitude-bound negative bytes))
