@@ -11,9 +11,6 @@ use Rattle.am_runs.specs.Pending.{Chain, joined_back, HasItems, IsPending, pendi
 use Rattle.am_runs.proofs.Pushing.{null_more, item_after_nulls, same_after_repeat, other_after_repeat, null_after_repeat, null_after_literal, other_after_literal, same_after_one, same_after_literal}
 use Rattle.am_runs.proofs.Holding.{expansion-null, expansion-repeat, expansion-literal, joined-push, literal_bytes}
 
-Entries : Type 0
-Entries = List (Option (List ℕ))
-
 -- an entry more in the pending run
 grown : {A : Type 0} (list back run more : List A) (x : A) → list ≡ back ++ run → more ≡ run ++ x ∷ [] → list ++ x ∷ [] ≡ back ++ more
 grown list back run more x e m = ap (λ l. l ++ x ∷ []) e ∙ append_assoc back run (x ∷ []) ∙ ap (λ l. back ++ l) (sym m)

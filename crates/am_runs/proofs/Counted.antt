@@ -16,8 +16,7 @@ use Rattle.am_runs.specs.Walking.{Place, open_run, open_by, open_at, open_nulls,
 use Rattle.am_runs.specs.Counters.{in_literal, entries_from, counted, IsCounted}
 use Rattle.am_runs.proofs.Entries.{entries-more, HasEntries-more, never_ends}
 use Rattle.am_runs.proofs.Jumping.{step-opened, from_same, entries_same}
-use Rattle.am_runs.proofs.Taken.{take_repeat, take_nulls, entries-taken, AllItems-behind, held_first, held_none, drop_held, drop_past, length-held, map_taken}
-use Rattle.am_runs.proofs.Spelled.{map_drop}
+use Rattle.am_runs.proofs.Taken.{take_repeat, take_nulls, entries-taken, AllItems-behind, held_first, held_none, length-held, map_taken}
 
 -- ---- at most as many are left in the run as in all
 
@@ -278,14 +277,6 @@ literal_taken end f copies literal left rest len v h w e x =
     let whole : take (length rest - len) (drop len rest) ≡ drop len rest = take_all (length rest - len) (drop len rest) (omega (arith, length-drop len rest)) in
     subst (λ r. IsCounted end copies (literal - 1) left r × (map (option_map f) (entries_from end literal left rest) ≡ Some v ∷ map (option_map f) (entries_from end (literal - 1) left r))) (sym whole)
     (literal_next end f copies literal left rest len v h w e x)
-
--- ---- leaving out
-
-pub drop_copies : {A : Type 0} (f : List ℕ → A) (n copies : ℕ) (v : Option A) (list : List (Option (List ℕ))) → n ≤ copies → counted f (copies - n) v list ≡ drop n (counted f copies v list)
-drop_copies f n copies v list h = drop_held n copies v (map (option_map f) list) h
-
-pub drop_more : {A : Type 0} (f : List ℕ → A) (n copies : ℕ) (v : Option A) (list : List (Option (List ℕ))) → copies ≤ n → map (option_map f) (drop (n - copies) list) ≡ drop n (counted f copies v list)
-drop_more f n copies v list h = map_drop (option_map f) (n - copies) list ∙ drop_past n copies v (map (option_map f) list) h
 
 -- ---- taking some of the copies
 

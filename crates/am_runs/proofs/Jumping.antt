@@ -69,10 +69,6 @@ Jumps-same end p q to k e h w = record {
   drops = λ n g v. ap (drop k) (entries_same end n p q (omega arith) e) ∙ w.drops n g (from_same end n p q (omega arith) e v);
 }
 
-pub if_some_weaker : {X : Type 0} (o : Option X) (P Q : X → Type 0) → ((x : X) → P x → Q x) → IfSome o P → IfSome o Q
-if_some_weaker None P Q f h = h
-if_some_weaker (Some x) P Q f h = f x h
-
 pub found_same : (end : List ℕ → Option ℕ) (p q : Place) (most : ℕ) → step end p ≡ step end q → {X : Type 0} (o : Option X) (k : X → ℕ) (place : X → Place) → IfSome o (λ j. (0 < k j) × (k j ≤ most) × Jumps end q (k j) (place j)) → IfSome o (λ j. (0 < k j) × (k j ≤ most) × Jumps end p (k j) (place j))
 found_same end p q most e None k place h = h
 found_same end p q most e (Some x) k place h = (h.0, h.1, Jumps-same end p q (place x) (k x) e h.0 h.2)

@@ -23,6 +23,5 @@ pub mod TextSpellings
 pub mod LiteralTexts
 pub mod Skimmed
 pub mod Alike
-pub mod Telling
 pub mod Parts
 pub mod Neighbours

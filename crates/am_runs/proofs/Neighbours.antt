@@ -30,9 +30,6 @@ use Rattle.am_runs.proofs.Spelled.{AllBytes, AllBytes-from, left_bytes, of_liter
 
 -- ---- what begins the bytes
 
-pub first_apart : (end : List ℕ → Option ℕ) (before x bytes rest : List ℕ) → IsItem end x → (before ≡ x → ⊥) → bytes ≡ x ++ rest → AreApart end before [] 1 0 x bytes rest
-first_apart end before x bytes rest i d e = record { each = (i, tt); apart = (d, tt); count_is = refl; size_is = refl; bytes_are = e }
-
 pub more_apart : (end : List ℕ → Option ℕ) (before : List ℕ) (start : List (List ℕ)) (count size : ℕ) (last bytes rest x behind : List ℕ) → AreApart end before start count size last bytes rest → IsItem end x → (last ≡ x → ⊥) → rest ≡ x ++ behind
     → AreApart end before (start ++ last ∷ []) (count + 1) (size + length last) x bytes behind
 more_apart end before start count size last bytes rest x behind a i d e = record {
@@ -42,10 +39,6 @@ more_apart end before start count size last bytes rest x behind a i d e = record
   size_is = omega (arith, a.size_is, ap length (joined-push start last), length-append (joined start) last);
   bytes_are = a.bytes_are ∙ ap (λ r. joined start ++ (last ++ r)) e ∙ sym (append_assoc (joined start) last (x ++ behind)) ∙ ap (λ f. f ++ (x ++ behind)) (sym (joined-push start last));
 }
-
--- how much of the bytes they take
-pub apart_within : (end : List ℕ → Option ℕ) (before : List ℕ) (start : List (List ℕ)) (count size : ℕ) (last bytes rest : List ℕ) → AreApart end before start count size last bytes rest → size + length last ≤ length bytes
-apart_within end before start count size last bytes rest a = omega (arith, a.size_is, ap length a.bytes_are, length-append (joined start) (last ++ rest), length-append last rest)
 
 pub apart_front : (end : List ℕ → Option ℕ) (before : List ℕ) (start : List (List ℕ)) (count size : ℕ) (last bytes rest : List ℕ) → AreApart end before start count size last bytes rest → take size bytes ≡ joined start
 apart_front end before start count size last bytes rest a = ap (take size) a.bytes_are ∙ take_at (joined start) (last ++ rest) size (sym a.size_is)
@@ -135,14 +128,6 @@ passed_at end reads p left k items rest e h i s l b =
 
 -- ---- what was taken
 
-pub took_nothing : {A : Type 0} (from : List A) (self : Option (List A)) → Took 0 from from self self
-took_nothing from None = ([], refl, refl, tt)
-took_nothing from (Some list) = ([], refl, refl, ap Some (sym (append-nil list)))
-
-pub none_same : {A : Type 0} (self : Option (List A)) → IfNone self (self ≡ None)
-none_same None = refl
-none_same (Some list) = tt
-
 pub took_more : {A : Type 0} (a b : ℕ) (from mid behind part : List A) (self next last : Option (List A)) → Took a from mid self next → length part ≡ b → mid ≡ part ++ behind → IfSome next (λ list. last ≡ Some (list ++ part)) → Took (a + b) from behind self last
 took_more {A = A} a b from mid behind part self next last t s e w = (
   t.0 ++ part,
@@ -158,9 +143,6 @@ took_more {A = A} a b from mid behind part self next last t s e w = (
 pub took_room : {A : Type 0} (k more most : ℕ) (from mid : List A) (self next : Option (List A)) → Took k from mid self next → k + more ≤ most → IfSome self (λ list. length list + most ≤ 2 ^ 32) → IfNone self (next ≡ None) → IfSome next (λ list. length list + more ≤ 2 ^ 32)
 took_room k more most from mid None next t l r n = subst (λ v. IfSome v (λ list. length list + more ≤ 2 ^ 32)) (sym n) tt
 took_room k more most from mid (Some list) next t l r n = subst (λ v. IfSome v (λ list. length list + more ≤ 2 ^ 32)) (sym t.3) (omega (arith, r, t.1, length-append list t.0))
-
-pub took_left : {A : Type 0} (k most : ℕ) (from mid : List A) (self next : Option (List A)) → Took k from mid self next → most ≤ length from → most - k ≤ length mid
-took_left k most from mid self next t l = omega (arith, ap length t.2, length-append t.0 mid, t.1)
 
 -- ---- numbers
 

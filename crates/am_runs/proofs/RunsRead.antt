@@ -18,9 +18,6 @@ pub record ReadSoFar (end : List ℕ → Option ℕ) (bytes rest : List ℕ) (to
   pub front : bytes ≡ flat_map bytes_of runs ++ rest
   pub count : total ≡ length (flat_map expansion runs)
 
-pub nothing_read : (end : List ℕ → Option ℕ) (bytes : List ℕ) → ReadSoFar end bytes bytes 0
-nothing_read end bytes = record { runs = []; each = tt; front = refl; count = refl }
-
 pub AllByRecursion-push : (P : Run → Type 0) (xs : List Run) (y : Run) → AllByRecursion P xs → P y → AllByRecursion P (xs ++ y ∷ [])
 AllByRecursion-push P [] y h p = (p, tt)
 AllByRecursion-push P (x ∷ xs) y h p = (h.0, AllByRecursion-push P xs y h.1 p)

@@ -23,9 +23,6 @@ pub record Skims (end : List ℕ → Option ℕ) (bytes : List ℕ) (count left 
   pub high : (k : ℕ) → start ≤ k → k < i → 128 ≤ get_or bytes k 0
   pub so_far : behind_items end count bytes ≡ behind_items end left (drop start bytes)
 
-pub not_begun : (end : List ℕ → Option ℕ) (bytes : List ℕ) (count : ℕ) → 0 < count → Skims end bytes count count 0 0
-not_begun end bytes count h = record { going = h; begun = omega arith; near = omega arith; high = λ k l m. absurd (omega arith); so_far = refl }
-
 pub goes_on : (end : List ℕ → Option ℕ) (bytes : List ℕ) (count left start i : ℕ) → Skims end bytes count left start i → 128 ≤ get_or bytes i 0 → i - start ≤ 8 → Skims end bytes count left start (i + 1)
 goes_on end bytes count left start i s h m = record {
   going = s.going;

@@ -1,5 +1,5 @@
 -- Lists of numbers and of texts are spelled where their entries are.
-use Rattle.std.proofs.Common.{◌≡◌, ℕ, suc, zero, ◌<◌, ◌≤◌, List, [], ◌∷◌, ◌++◌, length, map, take, drop, Option, Some, None, ℤ, pos, neg_ℤ, refl, sym, ap, ◌∙◌, subst, arith}
+use Rattle.std.proofs.Common.{◌≡◌, ℕ, suc, zero, ◌<◌, List, [], ◌∷◌, ◌++◌, length, map, take, drop, Option, Some, None, ℤ, pos, neg_ℤ, refl, sym, ap, ◌∙◌, subst, arith}
 use Rattle.std.specs.Prelude.{replicate}
 use Rattle.std.specs.Option.{IfSome, option_map}
 use Rattle.std.specs.List.{flat_map, AllByRecursion}
@@ -82,11 +82,6 @@ joins_signed = joins_again signed_end signed_value leb signed_again
 pub joins_texts : (bytes : List ℕ) (list : List (Option (List ℕ))) → IsBytes bytes → JoinsRuns text_end bytes list → JoinsRuns text_end bytes (map (option_map text_spelling) (map (option_map text_of) list))
 joins_texts = joins_again text_end text_of text_spelling text_again
 
-pub AllItems-drop : (end : List ℕ → Option ℕ) (n : ℕ) (list : List (Option (List ℕ))) → AllItems end list → AllItems end (drop n list)
-AllItems-drop end zero list h = h
-AllItems-drop end (suc n) [] h = tt
-AllItems-drop end (suc n) (x ∷ list) h = AllItems-drop end n list h.1
-
 pub map_drop : {A B : Type 0} (f : A → B) (n : ℕ) (xs : List A) → map f (drop n xs) ≡ drop n (map f xs)
 map_drop f zero xs = refl
 map_drop f (suc n) [] = refl
@@ -106,11 +101,6 @@ pub one_signed : (bytes : List ℕ) (xs ys : List (Option ℤ)) → JoinsSigned 
 one_signed bytes xs ys p q = sym (read_back signed_value leb signed_value-leb xs) ∙ ap (map (option_map signed_value)) (one_list signed_end signed_reads bytes _ _ p q) ∙ read_back signed_value leb signed_value-leb ys
 
 -- ---- the next entries, all alike
-
-pub like_item : (end : List ℕ → Option ℕ) (list : List (Option (List ℕ))) (k : ℕ) (x : List ℕ) → AllItems end list → 1 ≤ k → take k list ≡ replicate k (Some x) → IsItem end x
-like_item end list zero x h l e = absurd (omega arith)
-like_item end [] (suc k) x h l e = absurd (cc)
-like_item end (y ∷ list) (suc k) x h l e = let q : ◌≡◌ {A = Option (List ℕ)} y (Some x) = cc in subst (λ o. IfSome o (IsItem end)) q h.0
 
 pub map_take : {A B : Type 0} (f : A → B) (n : ℕ) (xs : List A) → map f (take n xs) ≡ take n (map f xs)
 map_take f zero xs = refl

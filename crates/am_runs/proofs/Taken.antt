@@ -1,8 +1,8 @@
 -- Equal entries taken at once, and what a cursor shows that holds some of them.
-use Rattle.std.proofs.Common.{◌≡◌, ℕ, suc, zero, ◌+◌, ◌-◌, ◌<◌, ◌≤◌, List, [], ◌∷◌, ◌++◌, length, take, drop, map, Option, Some, None, refl, sym, ap, ◌∙◌, subst, arith, length-append}
+use Rattle.std.proofs.Common.{◌≡◌, ℕ, suc, zero, ◌+◌, ◌-◌, ◌<◌, ◌≤◌, List, ◌∷◌, ◌++◌, length, drop, map, Option, Some, None, refl, sym, ap, ◌∙◌, arith, length-append}
 use Rattle.std.specs.Prelude.{replicate}
 use Rattle.std.specs.Option.{IfSome, option_map}
-use Rattle.std.proofs.lemmas.List.{take-append-drop, length-replicate, length-map, take_at}
+use Rattle.std.proofs.lemmas.List.{take-append-drop, length-replicate, length-map}
 use Rattle.am_runs.specs.declared.place.Kind.TheVariants as kinds
 use Rattle.am_runs.specs.Items.{IsItem}
 use Rattle.am_runs.specs.Typed.{AllItems}
@@ -42,11 +42,6 @@ pub first_item : (end : List ℕ → Option ℕ) (k : ℕ) (x : Option (List ℕ
 first_item end zero x list l h = absurd (omega arith)
 first_item end (suc k) x list l h = h.0
 
-pub like_item_or_null : (end : List ℕ → Option ℕ) (list : List (Option (List ℕ))) (k : ℕ) (x : Option (List ℕ)) → AllItems end list → 1 ≤ k → take k list ≡ replicate k x → IfSome x (IsItem end)
-like_item_or_null end list zero x h l e = absurd (omega arith)
-like_item_or_null end [] (suc k) x h l e = absurd (cc)
-like_item_or_null end (y ∷ list) (suc k) x h l e = let q : ◌≡◌ {A = Option (List ℕ)} y x = cc in subst (λ o. IfSome o (IsItem end)) q h.0
-
 pub map_taken : {A B : Type 0} (f : A → B) (k : ℕ) (x : A) (list : List A) → map f (replicate k x ++ list) ≡ replicate k (f x) ++ map f list
 map_taken f zero x list = refl
 map_taken f (suc k) x list = ap (λ l. f x ∷ l) (map_taken f k x list)
@@ -71,9 +66,6 @@ drop_past (suc n) (suc k) x list h = ap (λ m. drop m list) (let q : suc n - suc
 
 pub length-held : {A B : Type 0} (f : A → B) (k : ℕ) (x : B) (list : List A) → length (replicate k x ++ map f list) ≡ k + length list
 length-held f k x list = omega (arith, length-append (replicate k x) (map f list), length-replicate k x, length-map list f)
-
-pub take_held : {A : Type 0} (k : ℕ) (x : A) (list : List A) → take k (replicate k x ++ list) ≡ replicate k x
-take_held k x list = take_at (replicate k x) list k (length-replicate k x)
 
 pub fits_taken : (k : ℕ) (x : Option (List ℕ)) (old new : List (Option (List ℕ))) (bound : ℕ) → old ≡ replicate k x ++ new → length old < bound → k + length new < bound
 fits_taken k x old new bound e h = omega (arith, h, ap length e, length-append (replicate k x) new, length-replicate k x)

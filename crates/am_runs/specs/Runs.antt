@@ -9,10 +9,6 @@ use Rattle.std.specs.List.{flat_map, AllByRecursion}
 use Rattle.am_leb.specs.Leb.{leb, uleb}
 use Rattle.am_runs.specs.Items.{IsItem}
 
--- An item is its spelling, and null is None.
-abbrev pub Entry : Type 0
-Entry = Option (List ℕ)
-
 pub data Run : Type 0 where
   Repeat : ℕ → List ℕ → Run
   Literal : List (List ℕ) → Run
