@@ -19,16 +19,6 @@ drop_behind [] ys a (suc k) i j e d = cc
 drop_behind (x ∷ xs) ys a (suc k) zero j e d = absurd (omega arith)
 drop_behind (x ∷ xs) ys a (suc k) (suc i) j e d = drop_behind xs ys a k i j (omega arith) d
 
--- one step on
-pub drop_next : {X : Type 0} (xs ys : List X) (a : X) (n m : ℕ) → n ≡ suc m → xs ≡ a ∷ ys → drop n xs ≡ drop m ys
-drop_next xs ys a n m e d = ap (λ l. drop n l) d ∙ ap (λ k. drop k (a ∷ ys)) e
-
-pub get_next : {X : Type 0} (xs ys : List X) (a : X) (n m : ℕ) → n ≡ suc m → xs ≡ a ∷ ys → slice_get xs n ≡ slice_get ys m
-get_next xs ys a n m e d = ap (λ l. slice_get l n) d ∙ ap (λ k. slice_get (a ∷ ys) k) e
-
-pub get_none : {X : Type 0} (xs : List X) (n : ℕ) → xs ≡ [] → slice_get xs n ≡ None
-get_none xs n e = ap (λ l. slice_get l n) e
-
 -- ---- what was found last, and what stands behind it
 
 module _ {X : Type 0} (all : List X) where

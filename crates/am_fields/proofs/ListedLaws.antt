@@ -76,10 +76,6 @@ module _ (xs : List (List ℕ)) (up : Ascends bytes_cmp xs) (a at : List ℕ) (m
       (λ other. not_below a (get_or xs k at) (nat_list_cmp_total.trans a at (get_or xs k at) e (subst (λ b. bytes_cmp b (get_or xs k at) ≡ Less) (sym there) (below xs up at m k (omega arith) h))))
       (cases_eq k m))
 
--- the sought one stands neither before nor behind
-pub missing : (xs : List (List ℕ)) (a : List ℕ) (low high : ℕ) → low ≡ high → place_of xs a ≡ low + place_of (drop low xs) a → high + place_of (drop high xs) a ≡ length xs → place_of xs a ≡ length xs
-missing xs a low high e before behind = before ∙ ap (λ n. n + place_of (drop n xs) a) e ∙ behind
-
 -- it is the first
 pub place_first : (all others : List (List ℕ)) (first a : List ℕ) → all ≡ first ∷ others → is_actor a first ≡ true → 0 ≡ place_of all a
 place_first all others first a e t = sym (ap (λ l. place_of l a) e ∙ (rw t refl))

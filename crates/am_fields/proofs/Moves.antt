@@ -1,9 +1,8 @@
 -- Places of one list of actors, written as those of another, and the numbers beside them.
-use Rattle.std.proofs.Common.{◌≡◌, ℕ, ◌-◌, ◌≤◌, ◌^◌, List, [], ◌∷◌, ◌++◌, length, map, take, drop, Option, Some, None, refl, sym, ap, ◌∙◌, subst, arith, slice_get}
+use Rattle.std.proofs.Common.{◌≡◌, ℕ, ◌-◌, ◌^◌, List, [], ◌∷◌, ◌++◌, map, take, drop, Option, Some, None, refl, sym, ap, ◌∙◌, subst, arith, slice_get}
 use Rattle.std.specs.Prelude.{replicate, IfSome, ℤ, pos}
 use Rattle.std.specs.Option.{option_map}
 use Rattle.std.proofs.lemmas.Int.{ints}
-use Rattle.std.proofs.lemmas.List.{length-map, length-take-le}
 use Rattle.am_runs.proofs.Spelled.{map_take, map_drop}
 use Rattle.am_runs.proofs.Taken.{map_taken}
 use Rattle.am_delta.specs.Deltas.{AllBetween, AreMiddling}
@@ -74,12 +73,3 @@ are_moved known actors read actor number Within reading n xs xs' ys ys' shown al
       all = subst (λ l. AllRead read l ys') (sym p) (subst (AllRead read (drop n xs)) (sym q) rest);
       behind = ap (λ l. readings read l ys') p ∙ ap (readings read (drop n xs)) q ∙ readings-drop read n xs ys all ∙ ap (drop n) e;
     }
-
--- few of many are written
-pub few_written : {A B C : Type 0} (f : B → C) (g : A → B) (n : ℕ) (items : List A) (old new : Option (List C)) → old ≡ Some [] → n ≤ length items → n ≤ 2 ^ 32 → IfSome old (λ xs. new ≡ Some (xs ++ map f (map g (take n items)))) → IfSome new (λ xs. length xs ≤ 2 ^ 32)
-few_written f g n items None new e l s h = absurd (cc)
-few_written {C = C} f g n items (Some ys) new e l s h =
-    let P : List C → Type 0 = λ zs. new ≡ Some (zs ++ map f (map g (take n items))) in
-    let none : ys ≡ [] = cc in
-    let all : new ≡ Some (map f (map g (take n items))) = subst P none h in
-    subst (λ v. IfSome v (λ xs. length xs ≤ 2 ^ 32)) (sym all) (omega (arith, l, s, length-map (map g (take n items)) f, length-map (take n items) g, length-take-le n items l))

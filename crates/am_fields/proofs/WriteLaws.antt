@@ -64,10 +64,6 @@ pub step_as : {A : Type 0} (old new : Option (List A)) (x y : A) → IfSome old 
 step_as None new x y step e = tt
 step_as (Some zs) new x y step e = step ∙ ap (λ z. Some (zs ++ z ∷ [])) e
 
-pub steps_as : {A : Type 0} (old new : Option (List A)) (xs ys : List A) → IfSome old (λ zs. new ≡ Some (zs ++ xs)) → xs ≡ ys → IfSome old (λ zs. new ≡ Some (zs ++ ys))
-steps_as None new xs ys step e = tt
-steps_as (Some zs) new xs ys step e = step ∙ ap (λ us. Some (zs ++ us)) e
-
 -- the items so far and those of the next
 pub flat_room : {X A : Type 0} (f : X → List A) (xs : List X) (i : ℕ) (x : X) → i < length xs → x ≡ get_or xs i x → length (flat (map f (take i xs))) + length (f x) ≤ length (flat (map f xs))
 flat_room f [] i x n e = absurd (omega arith)
