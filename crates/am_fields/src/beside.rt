@@ -9,7 +9,7 @@ use crate::fault::BadFields;
 use std::alloc::AllocError;
 
 /// What stands beside the places, one cell a row.
-pub trait Cells: Drop {
+pub trait RowCells: Drop {
     /// What a row holds.
     type Value;
 
@@ -39,7 +39,7 @@ pub trait Cells: Drop {
 }
 
 /// Cells that are read with the places beside them.
-pub trait Beside<'a>: Cells {
+pub trait Beside<'a>: RowCells {
     /// What a row is read as, lent.
     type Item: Copy;
 

@@ -5,7 +5,7 @@ ghost use Rattle.am_fields.specs.Reading.{readings, AllRead};
 ghost use Rattle.am_fields.specs.Spelling.{SpellsPlaced};
 
 use crate::actors::Actors;
-use crate::beside::{Beside, Cells, Counters};
+use crate::beside::{Beside, Counters, RowCells};
 use crate::fault::BadFields;
 use crate::listed::ListedActors;
 use crate::moving::move_places;
@@ -17,13 +17,13 @@ use std::marker::Model;
 /// Items, one a row, each read of the place of its actor and what stands beside. What they spell, where one column of
 /// counters is beside, is `SpellsPlaced` (specs/Spelling.antt).
 #[derive(Drop)]
-pub struct PlacedColumns<'a, B: Cells> {
+pub struct PlacedColumns<'a, B: RowCells> {
     pub(crate) actor: NumberColumn<'a>,
     pub(crate) beside: B,
     pub(crate) actors: Actors<'a>,
 }
 
-impl<'a, B: Cells> Model for PlacedColumns<'a, B> {
+impl<'a, B: RowCells> Model for PlacedColumns<'a, B> {
     ghost use Rattle.std.specs.Prelude.{List};
     ghost use Rattle.am_fields.specs.Reading.{readings, AllRead};
 
@@ -50,7 +50,7 @@ fn are_read<'a, B: Beside<'a>>(actors: &Actors<'a>, actor: &NumberColumn<'a>, be
     true
 }
 
-impl<'a, B: Cells> PlacedColumns<'a, B> {
+impl<'a, B: RowCells> PlacedColumns<'a, B> {
     /// The columns, of which each row is known to be read as an item.
     pub(crate) fn known(actor: NumberColumn<'a>, beside: B, actors: &Actors<'a>) -> Self
         requires { AllRead (B.rows.read actors.now) actor (B.cells beside) }

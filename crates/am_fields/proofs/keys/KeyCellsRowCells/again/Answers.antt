@@ -1,4 +1,4 @@
-use Rattle.am_fields.proofs.keys.KeyCellsCells.again.Goals as goal
+use Rattle.am_fields.proofs.keys.KeyCellsRowCells.again.Goals as goal
 
 pub invariant_of-result : goal.invariant_of-result
 invariant_of-result c = rw (c.again.ensures, c.again-2.ensures) c.self.invariant

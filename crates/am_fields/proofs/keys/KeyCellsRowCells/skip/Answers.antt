@@ -2,7 +2,7 @@ use Rattle.std.proofs.Common.{ap, ◌∙◌, length, drop, arith}
 use Rattle.std.specs.List.{zip}
 use Rattle.std.proofs.lemmas.List.{length-drop}
 use Rattle.am_fields.proofs.Zips.{length-zip, zip-drop}
-use Rattle.am_fields.proofs.keys.KeyCellsCells.skip.Goals as goal
+use Rattle.am_fields.proofs.keys.KeyCellsRowCells.skip.Goals as goal
 
 pub skip-requires : goal.skip-requires
 skip-requires c = omega (arith, c.requires, ap length c.self.view_is, length-zip c.self.inside.counter c.self.inside.name c.self.invariant)
