@@ -59,7 +59,6 @@ pub use messages::MessageColumn;
 pub use number_writer::NumberWriter;
 pub use numbers::{NumberColumn, is_given};
 pub use objects::ObjectColumns;
-pub use placed::PlacedColumns;
 pub use text_writer::TextWriter;
 pub use texts::TextColumn;
 pub use times::TimeColumn;

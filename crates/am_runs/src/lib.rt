@@ -31,6 +31,6 @@ pub use judge::is_canonical;
 pub use laws::{
     canonical_spells, one_signed_list, one_spelled_list, one_text_list, one_unsigned_list,
 };
-pub use numbers::{NumberCursor, SignedCursor, UnsignedCursor};
+pub use numbers::{SignedCursor, UnsignedCursor};
 pub use text::TextCursor;
 pub use writer::{RunWriter, one_canonical_spelling};
