@@ -4,9 +4,9 @@ use Rattle.std.proofs.Math.Nat.{pow-succ', pow-le-pow_right}
 use Rattle.std.proofs.lemmas.Bool.Decides.{nat_tests}
 use Rattle.std.proofs.lemmas.Bool.{cases_lt}
 use Rattle.std.proofs.lemmas.Int.{ints}
-use Rattle.am_leb.specs.Leb.{IsSpelling, unsigned_value, signed_value, ends_negative, seven_bits, signed_digits, leb, IsLeb}
+use Rattle.am_leb.specs.Leb.{IsSpelling, unsigned_value, signed_value, ends_negative, seven_bits, signed_digits, leb, uleb, IsLeb}
 use Rattle.am_leb.specs.Reading.{digit, magnitude, from_magnitude}
-use Rattle.am_leb.proofs.Laws.{IsSpelling-cons}
+use Rattle.am_leb.proofs.Laws.{IsSpelling-cons, length_uleb-one, length_uleb-more}
 
 pub magnitude-false : (bytes : List ℕ) → magnitude false bytes ≡ unsigned_value bytes
 magnitude-false [] = refl
@@ -218,7 +218,15 @@ ends_negative-last [] h = absurd (omega arith)
 ends_negative-last (b ∷ []) h = refl
 ends_negative-last (b ∷ c ∷ bytes) h = ends_negative-last (c ∷ bytes) (omega arith) ∙ ap (λ i. nat_le 64 (get_or (b ∷ c ∷ bytes) i 0)) (let e : suc (length (c ∷ bytes) - 1) ≡ length (b ∷ c ∷ bytes) - 1 = omega arith in e)
 
-pub magnitude_len : (n : ℕ) → n < 2 ^ 64 → length (leb (pos n)) ≤ 11
-magnitude_len n h = ⊎_elim (λ one. omega arith)
-    (λ w. ⊎_elim (λ lt. omega (arith, w.1)) (λ le. absurd (omega (arith, w.2, pow-le-pow_right {n = 128} (omega arith) {i = 10} {j = w.0} le))) (cases_lt w.0 10))
-    (leb_spells false n).tight
+-- A magnitude takes as many bytes as its double, or one more than that, does without a sign.
+twice : (fuel n b : ℕ) → n ≤ fuel → b ≤ 1 → length (uleb (2 * n + b)) ≡ length (leb (pos n))
+twice zero n b f h = length_uleb-one (2 * n + b) (omega arith) ∙ sym (length_leb-one false n (omega arith))
+twice (suc fuel) n b f h = ⊎_elim
+    (λ lt. length_uleb-one (2 * n + b) (omega arith) ∙ sym (length_leb-one false n lt))
+    (λ le. length_uleb-more (2 * n + b) (omega arith)
+    ∙ ap suc (ap (λ k. length (uleb k)) (omega arith) ∙ twice fuel (n / 128) ((2 * n + b) / 128 - 2 * (n / 128)) (omega arith) (omega arith))
+    ∙ sym (length_leb-more false n le))
+    (cases_lt n 64)
+
+pub length_twice : (n : ℕ) → length (uleb (2 * n)) ≡ length (leb (pos n))
+length_twice n = ap (λ k. length (uleb k)) (omega arith) ∙ twice n n 0 (omega arith) (omega arith)

@@ -6,6 +6,7 @@ ghost use Rattle.am_leb.specs.Reading.{first_signed, digit, magnitude, from_magn
 
 use crate::fault::LebFault;
 use crate::spelling::{end_of, low_byte, spelling_at};
+use crate::unsigned::unsigned_len;
 use std::alloc::AllocError;
 
 fn digit_of(byte: u8, negative: bool) -> u8
@@ -29,16 +30,12 @@ fn magnitude_of(spelling: &[u8], negative: bool) -> u128
     value
 }
 
+// A magnitude takes as many bytes as its double does without a sign.
 fn signed_len(magnitude: u64) -> usize
+    requires { magnitude < 2 ^ 63 }
     ensures { result ≡ length (leb (pos magnitude)) }
 {
-    let mut rest = magnitude;
-    let mut len = 1;
-    while rest >= 64 {
-        rest /= 128;
-        len += 1;
-    }
-    len
+    unsigned_len(2 * magnitude)
 }
 
 fn is_negative(spelling: &[u8]) -> bool

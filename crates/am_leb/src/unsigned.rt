@@ -18,7 +18,8 @@ fn unsigned_of(spelling: &[u8]) -> u128
     value
 }
 
-fn unsigned_len(n: u64) -> usize
+// How many bytes the shortest spelling takes.
+pub(crate) fn unsigned_len(n: u64) -> usize
     ensures { result ≡ length (uleb n) }
 {
     let mut rest = n;
