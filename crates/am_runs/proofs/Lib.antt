@@ -1,5 +1,6 @@
 pub mod Entries
 pub mod Opening
+pub mod RunStarts
 pub mod Walks
 pub mod Unique
 pub mod RunsRead
