@@ -1,7 +1,7 @@
 -- The place behind a run's number, once the number was read: of nulls, of a repeat, or of a literal run.
 use borrow.Author.Tests.{ltb-false}
 use lib.Signed.{lt_z}
-use Rattle.std.proofs.Common.{◌≡◌, ℕ, suc, zero, ◌-◌, true, false, List, [], length, take, drop, Option, Some, None, Result, Ok, Err, ℤ, pos, negsuc, nat_abs, refl, sym, ap, ◌∙◌, arith}
+use Rattle.std.proofs.Common.{◌≡◌, ℕ, suc, zero, ◌-◌, true, false, List, [], length, take, drop, Option, Some, Result, Ok, ℤ, pos, negsuc, nat_abs, refl, sym, ap, ◌∙◌, arith}
 use Rattle.std.proofs.lemmas.List.{take_rest}
 use Rattle.am_leb.specs.Reading.{first_unsigned, first_signed}
 use Rattle.am_leb.specs.declared.LebFault.{LebFault}
