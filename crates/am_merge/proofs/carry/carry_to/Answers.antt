@@ -1,4 +1,4 @@
-use Rattle.std.proofs.Common.{◌∷◌, []}
+use Rattle.std.proofs.Common.{◌∙◌, ◌∷◌, []}
 use Rattle.am_merge.specs.Stops.{copies, event_of}
 use Rattle.am_merge.proofs.Carried.{behind_both, can_first, can_rest, written_both}
 use Rattle.am_merge.proofs.carry.carry_to.Goals as goal
@@ -20,3 +20,6 @@ pub returns-clause-behind : goal.returns-clause-behind
 returns-clause-behind c =
     behind_both (copies c.args.stop.now.skip) (event_of c.args.named.now c.args.stop.now ∷ []) c.args.from.now _ _
     c.in_ok-copy_rows.ensures.behind c.in_ok-at_stop.ensures.behind
+
+pub returns-clause-actors : goal.returns-clause-actors
+returns-clause-actors c = c.in_ok-at_stop.ensures.actors ∙ c.in_ok-copy_rows.ensures.actors
