@@ -4,8 +4,11 @@ pub mod OneReading
 pub mod BackLaws
 pub mod RowsWritten
 pub mod RowsTaken
+pub mod RowsShort
+pub mod FieldsAgain
 pub mod MetasWritten
 pub mod MetasTaken
+pub mod MetasShort
 pub mod Skipped
 pub mod Spelling
 pub mod RowsSpelled
