@@ -4,6 +4,7 @@ pub mod Deduped
 pub mod Preds
 pub mod Ordered
 pub mod Bounds
+pub mod Turns
 pub mod Walked
 pub mod Mentioned
 pub mod Whole
