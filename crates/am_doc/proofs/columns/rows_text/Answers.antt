@@ -1,10 +1,12 @@
-use Rattle.std.proofs.Common.{sym, subst, take, arith}
+use Rattle.std.proofs.Common.{sym, ap, ◌∙◌, subst, take, arith}
 use Rattle.am_colmeta.specs.Metadata.{metadata, listing, body}
 use Rattle.am_doccols.specs.Columns.{written_rows}
 use Rattle.am_doccols.specs.Conditions.{HasRoom}
+use Rattle.am_doccols.specs.Lent.{row_with}
 use Rattle.am_fields.proofs.WriteLaws.{held}
 use Rattle.am_doc.proofs.Rooms.{row_room, at_end}
 use Rattle.am_doc.proofs.Writers.{row_ready, text_is}
+use Rattle.am_doc.proofs.Turns.{taken_more}
 use Rattle.am_doc.proofs.columns.rows_text.Goals as goal
 
 pub push-requires-clause-row : goal.push-requires-clause-row
@@ -19,3 +21,10 @@ returns-clause-metadata c = text_is (λ t. t.0) (λ a rows. metadata (listing (w
 
 pub returns-clause-body : goal.returns-clause-body
 returns-clause-body c = text_is (λ t. t.1) (λ a rows. body (written_rows a rows)) c.loop-row.writer.0 c.args.actors.now c.loop-row.writer.1 c.args.rows.now c.finish.result c.loop-row.invariant.0 (at_end c.loop-row.row-index c.args.rows.now c.loop-row.writer.1 (omega (arith, c.loop-row-test.false)) c.loop-row.invariant.1) c.finish.ensures.body
+
+pub loop-row-preserved : goal.loop-row-preserved
+loop-row-preserved c = (
+  c.in_ok-push.ensures.actors ∙ c.loop-row.invariant.0,
+  taken_more c.args.rows.now c.loop-row.row-index c.row-item.result (row_with c.fields_of.result c.as_slice.result.now) c.loop-row.writer.1 c.push.new.self.1 c.loop-row-test.true c.row-item.is
+      (ap (row_with c.fields_of.result) c.as_slice.ensures ∙ c.fields_of.ensures) c.loop-row.invariant.1 c.in_ok-push.ensures.ok,
+)
