@@ -1,21 +1,18 @@
 -- Where the members of a larger set stand, those of the smaller set first.
-use Rattle.std.proofs.Common.{ℕ, zero, suc, ◌≡◌, ◌+◌, ◌-◌, ◌<◌, ◌≤◌, List, [], ◌∷◌, ◌++◌, length, map, get_or, take, true, false, Bor, Option, Some, None, option_map, slice_get, find, refl, sym, ap, ◌∙◌, subst, inl, inr, Contains, arith}
+use Rattle.std.proofs.Common.{ℕ, zero, suc, ◌≡◌, ◌+◌, ◌<◌, ◌≤◌, List, [], ◌∷◌, ◌++◌, length, map, get_or, true, false, Bor, Option, Some, None, option_map, slice_get, refl, sym, ap, ◌∙◌, subst, Contains, arith}
 use Rattle.std.specs.Option.{MatchOption, IfSome, option_copied}
 use Rattle.std.proofs.lemmas.Bool.{false_from_ne_true}
-use Rattle.std.proofs.lemmas.List.{map-append, take_more, length-append, length-map, get_or-map}
-use Rattle.std.proofs.lemmas.List.Elements.{Contains-get_or}
-use Rattle.std.proofs.lemmas.Option.{MatchOption-at_some, slice_get-map, slice_get_within, get_or_from_slice_get, slice_get-get_or, slice_get_past}
+use Rattle.std.proofs.lemmas.List.{length-map, get_or-map}
+use Rattle.std.proofs.lemmas.Option.{slice_get-map, slice_get_within, get_or_from_slice_get, slice_get-get_or, slice_get_past}
 use Rattle.am_types.specs.declared.Hash.{Hash}
 use Rattle.am_types.specs.declared.Change.{Change}
 use Rattle.am_types.specs.Order.{hash_cmp, same}
 use Rattle.am_types.specs.Members.{Member, changes, hashes, holds, member, DistinctHashes}
-use Rattle.am_types.specs.Canonical.{order}
 use Rattle.am_types.specs.ValidSets.{Valid}
 use Rattle.am_types.proofs.Orders.{same_hash-true, same_hash_itself}
 use Rattle.am_laws.proofs.Listed.{holds_own}
 use Rattle.am_laws.proofs.Rules.{distinct_hashes}
-use Rattle.am_merge.specs.ChangeRows.{turn, turns}
-use Rattle.am_merge.proofs.ChangeRows.{from_order}
+use Rattle.am_merge.specs.ChangeRows.{turn}
 use Rattle.am_merge.proofs.Larger.{one_apart}
 
 -- ---- places in two lists

@@ -1,5 +1,5 @@
 -- The change rows of a larger set are those of the smaller, moved, and those of the added changes between them.
-use Rattle.std.proofs.Common.{ℕ, zero, suc, ◌≡◌, ◌+◌, List, [], ◌∷◌, ◌++◌, map, filter, true, false, Option, Some, None, option_map, slice_get, unwrap_or, cond, refl, sym, ap, ◌∙◌, subst, inl, inr, Contains, IsPermutation, arith}
+use Rattle.std.proofs.Common.{ℕ, zero, suc, ◌≡◌, ◌+◌, List, [], ◌∷◌, ◌++◌, map, filter, true, false, Some, slice_get, unwrap_or, refl, sym, ap, ◌∙◌, subst, inl, inr, Contains, IsPermutation, arith}
 use Rattle.std.proofs.lemmas.Bool.{cases_Bool, both_ways, false_from_ne_true}
 use Rattle.std.proofs.lemmas.List.Elements.{Contains-append_cases}
 use Rattle.std.proofs.lemmas.List.Sorted.{IsPermutation-sym, IsPermutation-trans}
@@ -18,7 +18,6 @@ use Rattle.am_laws.proofs.Rules.{distinct_hashes}
 use Rattle.am_merge.specs.Laws.{MetasOfLarger}
 use Rattle.am_merge.specs.Tables.{moved}
 use Rattle.am_merge.specs.ChangeRows.{turns, old_places, row_in, moved_to, moved_by, woven}
-use Rattle.am_merge.proofs.Lists.{map-map}
 use Rattle.am_merge.proofs.Sorts.{Contains-from_sorted_by}
 use Rattle.am_merge.proofs.Larger.{one_apart}
 use Rattle.am_merge.proofs.Orders.{order_of_old}

@@ -7,6 +7,8 @@ ghost use Rattle.am_types.specs.Order.{id_cmp};
 ghost use Rattle.am_types.specs.Rows as document;
 ghost use Rattle.am_types.specs.Views.{id_of};
 ghost use Rattle.am_places.specs.Numbered.{operation_of};
+ghost use Rattle.am_colmeta.specs.Metadata.{metadata, listing, body};
+ghost use Rattle.am_doccols.specs.Columns.{written_rows};
 ghost use Rattle.am_doccols.specs.Conditions.{HasRoom, IsRowFor};
 ghost use Rattle.am_doccols.specs.Front.{HasRoomFor};
 ghost use Rattle.am_doccols.specs.Lent.{row_with};
@@ -22,7 +24,7 @@ use crate::stops::Stop;
 use am_doccols::{RowCursor, RowFields, RowRef, RowWriter, SuccCursor};
 use am_fields::text_in;
 use am_places::Numbered;
-use am_types::{ActorId, IdRef, compare_ids};
+use am_types::{ActorId, Bytes, IdRef, compare_ids};
 use std::alloc::{AllocError, Global};
 
 // The fields of the row of an operation.
@@ -251,25 +253,49 @@ fn carry_to(
     Ok(())
 }
 
-/// A writer with the rows that the stops make of those of the cursor; behind the last stop, so many rows are copied.
-pub fn carry(
+// The rows that the stops make of those of the cursor are written; behind the last stop, so many rows are copied.
+fn carry_all(
+    alloc: Global,
+    writer: &mut RowWriter,
+    from: &mut RowCursor<'_>,
+    named: &[Naming<'_>],
+    stops: &[Stop<'_>],
+    rest: u64,
+) -> Result<(), AllocError>
+    requires start { writer.old.1 ≡ Some [] }
+    requires can { CanCarry writer.old.0 writer.old.1 (events_of named.now stops.now ++ copies rest) from.old }
+    ensures actors { OnOk result (writer.new.0 ≡ writer.old.0) }
+    ensures rows { OnOk result (writer.new.1 ≡ Some (carried (events_of named.now stops.now ++ copies rest) from.old)) }
+{
+    for i in 0..stops.len() {
+        let stop = stops[i];
+        carry_to(alloc, writer, from, named, &stop)?;
+    }
+    copy_rows(writer, from, rest)?;
+    Ok(())
+}
+
+/// The metadata and the body of the columns of the rows that the stops make of those of the cursor; behind the last stop, so
+/// many rows are copied. Places name these actors.
+pub fn carried_text(
     alloc: Global,
     actors: &[ActorId],
     rows: &RowCursor<'_>,
     named: &[Naming<'_>],
     stops: &[Stop<'_>],
     rest: u64,
-) -> Result<RowWriter, AllocError>
+) -> Result<(Bytes, Bytes), AllocError>
     requires { CanCarry actors.now (Some []) (events_of named.now stops.now ++ copies rest) rows.now }
-    ensures actors { IfOk result (λ w. w.0 ≡ actors.now) }
-    ensures rows { IfOk result (λ w. w.1 ≡ Some (carried (events_of named.now stops.now ++ copies rest) rows.now)) }
+    ensures metadata { IfOk result (λ text. text.0 ≡ metadata (listing (written_rows actors.now (carried (events_of named.now stops.now ++ copies rest) rows.now)))) }
+    ensures body { IfOk result (λ text. text.1 ≡ body (written_rows actors.now (carried (events_of named.now stops.now ++ copies rest) rows.now))) }
 {
     let mut writer = RowWriter::new(alloc, actors)?;
     let mut from = rows.again();
-    for i in 0..stops.len() {
-        let stop = stops[i];
-        carry_to(alloc, &mut writer, &mut from, named, &stop)?;
+    // (no way out lets go of the writer, whose proof would take long)
+    let all = carry_all(alloc, &mut writer, &mut from, named, stops, rest);
+    let text = writer.finish();
+    match all {
+        Ok(()) => text,
+        Err(fault) => Err(fault),
     }
-    copy_rows(&mut writer, &mut from, rest)?;
-    Ok(writer)
 }

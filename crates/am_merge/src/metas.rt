@@ -119,6 +119,38 @@ fn push_turn(
     }
 }
 
+// Appends the rows of the turns: those of the added changes, and between them the old ones.
+fn push_turns(
+    alloc: Global,
+    writer: &mut MetaWriter,
+    turns: &[Option<&Change>],
+    rest: &mut MetaCursor<'_>,
+    places: &Places<'_>,
+) -> Result<(), AllocError>
+    requires empty { writer.old.1 ≡ Some [] }
+    requires fine { All (λ t. IfSome t (λ c. Fine c.now)) turns.now }
+    requires all { AllByRecursion (IsMetaFor writer.old.0) (change_rows places.now (map (option_map (λ c. c.now)) turns.now) rest.old) }
+    requires few { length (change_rows places.now (map (option_map (λ c. c.now)) turns.now) rest.old) ≤ 2 ^ 20 }
+    requires few_deps { dep_count (change_rows places.now (map (option_map (λ c. c.now)) turns.now) rest.old) ≤ 2 ^ 22 }
+    ensures actors { OnOk result (writer.new.0 ≡ writer.old.0) }
+    ensures rows { OnOk result (writer.new.1 ≡ Some (change_rows places.now (map (option_map (λ c. c.now)) turns.now) rest.old)) }
+{
+    let old_places = places_of_old(alloc, turns)?;
+    let mut moved = Vec::new(alloc);
+    for i in 0..turns.len() {
+        push_turn(
+            alloc,
+            writer,
+            turns[i],
+            rest,
+            places,
+            old_places.as_slice(),
+            &mut moved,
+        )?;
+    }
+    Ok(())
+}
+
 /// The metadata and the body of the columns of the change rows of a larger set: in the order of the turns those of the added
 /// changes, and between them the old ones. The places are those of all changes.
 pub fn metas_text(
@@ -135,20 +167,13 @@ pub fn metas_text(
     ensures metadata { IfOk result (λ text. text.0 ≡ metadata (listing (written_metas actors.now (change_rows places.now (map (option_map (λ c. c.now)) turns.now) old.entry)))) }
     ensures body { IfOk result (λ text. text.1 ≡ body (written_metas actors.now (change_rows places.now (map (option_map (λ c. c.now)) turns.now) old.entry))) }
 {
-    let old_places = places_of_old(alloc, turns)?;
     let mut writer = MetaWriter::new(alloc, actors)?;
     let mut rest = old;
-    let mut moved = Vec::new(alloc);
-    for i in 0..turns.len() {
-        push_turn(
-            alloc,
-            &mut writer,
-            turns[i],
-            &mut rest,
-            places,
-            old_places.as_slice(),
-            &mut moved,
-        )?;
+    // (no way out lets go of the writer, whose proof would take long)
+    let all = push_turns(alloc, &mut writer, turns, &mut rest, places);
+    let text = writer.finish();
+    match all {
+        Ok(()) => text,
+        Err(fault) => Err(fault),
     }
-    writer.finish()
 }

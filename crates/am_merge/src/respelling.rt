@@ -42,8 +42,13 @@ fn rows_over(
     let mut writer = RowWriter::new(alloc, actors)?;
     let mut from = rows;
     let count = from.left();
-    writer.take(&mut from, count)?;
-    writer.finish()
+    // (no way out lets go of the writer, whose proof would take long)
+    let all = writer.take(&mut from, count);
+    let text = writer.finish();
+    match all {
+        Ok(()) => text,
+        Err(fault) => Err(fault),
+    }
 }
 
 /// The contents of the canonical document of a set, from any document of it, which is read in place, and the set's changes in the

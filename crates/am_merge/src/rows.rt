@@ -11,7 +11,7 @@ ghost use Rattle.am_merge.specs.Walk.{beginning, walked};
 ghost use Rattle.am_merge.specs.declared.naming.Naming.{Naming};
 
 use crate::added::{added_operations, backwards, beginning};
-use crate::carry::carry;
+use crate::carry::carried_text;
 use crate::guide::Guide;
 use crate::naming::{Tables, predecessors, references, sort_namings};
 use crate::stops::Walk;
@@ -87,14 +87,12 @@ pub(crate) fn rows_text(
     let operations = added_operations(alloc, added)?;
     let tables = tables_of(alloc, operations.as_slice())?;
     let walk = walk_all(alloc, operations.as_slice(), &tables, &rows)?;
-    let writer = carry(
+    carried_text(
         alloc,
         actors,
         &rows,
         tables.named.as_slice(),
         walk.stops.as_slice(),
         walk.skipped,
-    )?;
-    let text = writer.finish()?;
-    Ok(text)
+    )
 }

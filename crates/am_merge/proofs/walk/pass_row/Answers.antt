@@ -1,4 +1,3 @@
-use Rattle.std.proofs.Common.{refl}
 use Rattle.am_merge.specs.Spots.{spot_in}
 use Rattle.am_merge.specs.Stops.{events_of, waiting_of}
 use Rattle.am_merge.proofs.Unnamed.{row_unnamed}
