@@ -132,7 +132,8 @@ fn bits_of(negative: bool, low: u8) -> u8
     if negative { 127 - low } else { low }
 }
 
-fn push_magnitude(out: &mut Vec<u8>, negative: bool, magnitude: u64) -> Result<(), AllocError>
+// The same as `push_magnitude`, of a magnitude of any length.
+fn push_longer(out: &mut Vec<u8>, negative: bool, magnitude: u64) -> Result<(), AllocError>
     requires { magnitude < 2 ^ 63 }
     ensures ok { OnOk result (out.new.items ≡ out.old.items ++ leb (from_magnitude negative magnitude)) }
     ensures err { OnErr result (out.new.items ≡ out.old.items) }
@@ -147,6 +148,18 @@ fn push_magnitude(out: &mut Vec<u8>, negative: bool, magnitude: u64) -> Result<(
     }
     spelling[len] = bits_of(negative, rest as u8);
     out.extend_from_slice(&spelling[..len + 1])
+}
+
+fn push_magnitude(out: &mut Vec<u8>, negative: bool, magnitude: u64) -> Result<(), AllocError>
+    requires { magnitude < 2 ^ 63 }
+    ensures ok { OnOk result (out.new.items ≡ out.old.items ++ leb (from_magnitude negative magnitude)) }
+    ensures err { OnErr result (out.new.items ≡ out.old.items) }
+{
+    if magnitude < 64 {
+        out.push(bits_of(negative, magnitude as u8))?;
+        return Ok(());
+    }
+    push_longer(out, negative, magnitude)
 }
 
 /// Appends the shortest spelling, all of it or, without memory, nothing.

@@ -87,8 +87,8 @@ pub fn read_u(bytes: &[u8]) -> Result<(u64, usize), LebFault>
     first_number(bytes)
 }
 
-/// Appends the shortest spelling, all of it or, without memory, nothing.
-pub fn push_u(out: &mut Vec<u8>, n: u64) -> Result<(), AllocError>
+// The same as `push_u`, of a number of any length.
+fn push_longer(out: &mut Vec<u8>, n: u64) -> Result<(), AllocError>
     ensures ok { OnOk result (out.new.items ≡ out.old.items ++ uleb n) }
     ensures err { OnErr result (out.new.items ≡ out.old.items) }
 {
@@ -102,6 +102,19 @@ pub fn push_u(out: &mut Vec<u8>, n: u64) -> Result<(), AllocError>
     }
     spelling[len] = rest as u8;
     out.extend_from_slice(&spelling[..len + 1])
+}
+
+/// Appends the shortest spelling, all of it or, without memory, nothing.
+#[inline(always)]
+pub fn push_u(out: &mut Vec<u8>, n: u64) -> Result<(), AllocError>
+    ensures ok { OnOk result (out.new.items ≡ out.old.items ++ uleb n) }
+    ensures err { OnErr result (out.new.items ≡ out.old.items) }
+{
+    if n < 128 {
+        out.push(n as u8)?;
+        return Ok(());
+    }
+    push_longer(out, n)
 }
 
 /// Each number has exactly one shortest spelling.
