@@ -15,8 +15,11 @@ use std::alloc::{AllocError, Global};
 use std::cmp::Ordering;
 use std::collections::BTreeMap;
 
-/// A table is kept where a walk would visit this many changes else.
-const STEP: u64 = 16;
+/// A table is kept where a walk would visit this many changes else, and one more for so many authors, since a table has a
+/// line for each of them.
+const FEWEST: u64 = 4;
+
+const AUTHORS: u64 = 128;
 
 /// What is kept beside a change.
 #[derive(Clone, Drop)]
@@ -85,7 +88,7 @@ impl Parts {
     {
         let depth = self.depth_above(node.deps.as_slice());
         let away = self.away_above(node.deps.as_slice());
-        if away < STEP {
+        if away < self.step() {
             return Ok(Mark {
                 author,
                 depth,
@@ -110,6 +113,11 @@ impl Parts {
             away: 0,
             kept: Some(table),
         })
+    }
+
+    /// How many changes a walk may visit. No contract speaks of it.
+    fn step(&self) -> u64 {
+        FEWEST + self.authors.len() as u64 / AUTHORS
     }
 
     /// The depth of a change with these dependencies.
