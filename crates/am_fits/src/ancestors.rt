@@ -26,13 +26,16 @@ pub(crate) struct Asked<'a> {
     pub end: u64,
 }
 
-/// The operations of the ancestors of a change. What was found out about the actor that was asked for last is kept, since
-/// the ids that a change names have few actors. Contracts see the clock of the ancestors and the facts of all operations.
+/// The operations of the ancestors of a change. What was found out about the two actors that were asked for last is kept,
+/// since the ids that a change names have few actors, often by turns. Contracts see the clock of the ancestors and the facts
+/// of all operations.
 #[derive(Drop)]
 pub(crate) struct Ancestors<'a> {
     reached: Reached<'a>,
     table: &'a Table,
     asked: Asked<'a>,
+    /// The actor who was asked for before.
+    before: Asked<'a>,
 }
 
 impl<'a> Model for Ancestors<'a> {
@@ -43,7 +46,7 @@ impl<'a> Model for Ancestors<'a> {
 
     ghost view = { λ a. record { clock = a.reached; facts = facts_in a.table.now } };
 
-    ghost invariant = { λ a. IsPast a.reached a.table.now a.asked };
+    ghost invariant = { λ a. IsPast a.reached a.table.now a.asked × IsPast a.reached a.table.now a.before };
 }
 
 impl<'a> Ancestors<'a> {
@@ -58,6 +61,7 @@ impl<'a> Ancestors<'a> {
             reached,
             table,
             asked,
+            before: asked,
         }
     }
 
@@ -66,7 +70,9 @@ impl<'a> Ancestors<'a> {
         ensures same { self.new ≡ self.old }
         ensures found { option_map fact_shown result ≡ ancestor_fact self.old.clock self.old.facts (id_of id.entry) }
     {
-        self.asked = ask(self.asked, &self.reached, self.table, id.actor);
+        let (asked, before) = ask(self.asked, self.before, &self.reached, self.table, id.actor);
+        self.asked = asked;
+        self.before = before;
         if id.counter >= self.asked.end {
             return None;
         }
@@ -74,16 +80,27 @@ impl<'a> Ancestors<'a> {
     }
 }
 
-/// What is known of the actor.
-fn ask<'a>(asked: Asked<'a>, reached: &Reached<'_>, table: &'a Table, actor: &'a [u8]) -> Asked<'a>
-    requires { IsPast reached.now table.now asked }
-    ensures past { IsPast reached.now table.now result }
-    ensures actor { result.actor.now ≡ actor.now }
+/// What is known of the actor, and of the one who was asked for before.
+fn ask<'a>(
+    asked: Asked<'a>,
+    before: Asked<'a>,
+    reached: &Reached<'_>,
+    table: &'a Table,
+    actor: &'a [u8],
+) -> (Asked<'a>, Asked<'a>)
+    requires asked { IsPast reached.now table.now asked }
+    requires before { IsPast reached.now table.now before }
+    ensures past { IsPast reached.now table.now result.0 }
+    ensures actor { result.0.actor.now ≡ actor.now }
+    ensures before { IsPast reached.now table.now result.1 }
 {
     if same_actor(asked.actor, actor) {
-        return asked;
+        return (asked, before);
     }
-    asked_of(reached, table, actor)
+    if same_actor(before.actor, actor) {
+        return (before, asked);
+    }
+    (asked_of(reached, table, actor), asked)
 }
 
 /// What the clock and the table tell of an actor.

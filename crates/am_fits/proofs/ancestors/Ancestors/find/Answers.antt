@@ -14,6 +14,6 @@ returns-clause-found c =
     let i = id_of c.args.id in
     let clock = c.self.inside.reached in
     let table = c.self.inside.table.now in
-    let author = c.ask-self-inside.ensures.past.author ∙ ap (number (words_of table.texts).authors) c.ask-self-inside.ensures.actor in
-    let end = c.ask-self-inside.ensures.past.end ∙ ap (λ (y : List ℕ). (reach_of clock y).end) c.ask-self-inside.ensures.actor in
-    fact_below clock (facts_in table) i _ c.ask-self-inside.result.end end c.if-id-self.false (c.at.ensures c.args.id.actor.now author) ∙ ap (λ (p : Past). ancestor_fact p.clock p.facts i) c.self.view_is
+    let author = c.ask.ensures.past.author ∙ ap (number (words_of table.texts).authors) c.ask.ensures.actor in
+    let end = c.ask.ensures.past.end ∙ ap (λ (y : List ℕ). (reach_of clock y).end) c.ask.ensures.actor in
+    fact_below clock (facts_in table) i _ c.ask.result.0.end end c.if-id-self.false (c.at.ensures c.args.id.actor.now author) ∙ ap (λ (p : Past). ancestor_fact p.clock p.facts i) c.self.view_is
