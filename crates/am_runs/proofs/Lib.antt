@@ -26,3 +26,4 @@ pub mod Skimmed
 pub mod Alike
 pub mod Parts
 pub mod Neighbours
+pub mod Listing

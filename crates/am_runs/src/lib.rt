@@ -9,6 +9,7 @@ mod item;
 mod judge;
 mod laws;
 mod leb;
+mod list;
 mod literal;
 mod number;
 mod numbers;
@@ -31,6 +32,7 @@ pub use judge::is_canonical;
 pub use laws::{
     canonical_spells, one_signed_list, one_spelled_list, one_text_list, one_unsigned_list,
 };
+pub use list::{Spells, push_list};
 pub use numbers::{SignedCursor, UnsignedCursor};
 pub use text::TextCursor;
 pub use writer::{RunWriter, one_canonical_spelling};

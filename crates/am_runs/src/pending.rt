@@ -31,7 +31,7 @@ pub struct Pending {
 }
 
 // A run's number: so many, or where it is of a literal run, less than minus so many by one.
-fn push_header(out: &mut Vec<u8>, literal: bool, count: u64) -> Result<(), AllocError>
+pub fn push_header(out: &mut Vec<u8>, literal: bool, count: u64) -> Result<(), AllocError>
     requires { count < 2 ^ 63 }
     ensures { OnOk result (out.new.items ≡ out.old.items ++ leb (from_magnitude literal count)) }
 {
