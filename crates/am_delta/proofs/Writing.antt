@@ -27,7 +27,7 @@ one_sum : (sum : ℤ) (value : Option ℤ) → sums_from sum (less value sum ∷
 one_sum sum None = refl
 one_sum sum (Some v) = ap (λ z. Some z ∷ []) (let e : sum +ℤ (v -ℤ sum) ≡ v = omega (arith, ints) in e)
 
-sums_push : (sum : ℤ) (ds : List (Option ℤ)) (value : Option ℤ) → sums_from sum (ds ++ less value (last_from sum (sums_from sum ds)) ∷ []) ≡ sums_from sum ds ++ value ∷ []
+pub sums_push : (sum : ℤ) (ds : List (Option ℤ)) (value : Option ℤ) → sums_from sum (ds ++ less value (last_from sum (sums_from sum ds)) ∷ []) ≡ sums_from sum ds ++ value ∷ []
 sums_push sum [] value = one_sum sum value
 sums_push sum (None ∷ ds) value = ap (λ l. None ∷ l) (sums_push sum ds value)
 sums_push sum (Some d ∷ ds) value = ap (λ l. Some (sum +ℤ d) ∷ l) (sums_push (sum +ℤ d) ds value)
@@ -38,7 +38,7 @@ last_push last [] (Some v) = refl
 last_push last (None ∷ values) value = last_push last values value
 last_push last (Some v ∷ values) value = last_push v values value
 
-middling : (value : Option ℤ) (last : ℤ) → IfSome value IsMiddling → IsMiddling last → IsMiddling (or_last value last)
+pub middling : (value : Option ℤ) (last : ℤ) → IfSome value IsMiddling → IsMiddling last → IsMiddling (or_last value last)
 middling None last h g = g
 middling (Some v) last h g = h
 

@@ -101,3 +101,7 @@ AreMiddling values = AllByRecursion (λ value. IfSome value IsMiddling) values
 
 abbrev pub canonical_delta_bytes : List (Option ℤ) → List ℕ
 canonical_delta_bytes values = canonical_bytes (map (option_map leb) (differences_from (pos 0) values))
+
+-- what a list keeps that is spelled at once
+abbrev pub IsListing : List (Option ℤ) → ℤ → Type 0
+IsListing differences last = IsMiddling last × (last ≡ last_from (pos 0) (sums_from (pos 0) differences))

@@ -51,7 +51,7 @@ fn put_alike(
     }
 }
 
-fn difference_to(value: Option<i64>, last: i64) -> Option<i64>
+pub fn difference_to(value: Option<i64>, last: i64) -> Option<i64>
     requires value { IfSome value IsMiddling }
     requires last { IsMiddling last }
     ensures { result ≡ less value last }
@@ -62,7 +62,7 @@ fn difference_to(value: Option<i64>, last: i64) -> Option<i64>
     }
 }
 
-fn value_or(value: Option<i64>, last: i64) -> i64
+pub fn value_or(value: Option<i64>, last: i64) -> i64
     ensures { result ≡ or_last value last }
 {
     match value {
