@@ -1,24 +1,25 @@
 //! The bytes of each column of operations.
-ghost use Rattle.std.specs.Prelude.{◌≡◌, ◌≤◌, ◌^◌, [], All, length, map, option_map, IfOk, IfSome, OnOk};
-ghost use Rattle.am_types.specs.Fine.{IsKey, FineOp, pred_count};
+ghost use Rattle.std.specs.Prelude.{◌≡◌, ◌≤◌, ◌^◌, ◌++◌, All, length, map, option_map, IfOk, IfSome, OnOk};
+ghost use Rattle.am_types.specs.Fine.{IsId, IsKey, FineOp, pred_count};
 ghost use Rattle.am_delta.specs.Deltas.{IsMiddling, canonical_delta_bytes};
 ghost use Rattle.am_flags.specs.Flags.{canonical_bytes as flag_bytes, canonical_maybe_bytes};
 ghost use Rattle.am_values.specs.Columns.{joined};
-ghost use Rattle.am_fields.specs.Columns.{numbers_bytes, texts_bytes};
-ghost use Rattle.am_fields.specs.Held.{IdsHeld, IdsSpelled};
-ghost use Rattle.am_fields.specs.Layout.{key_counter as counter_of_key, key_string, flat};
+ghost use Rattle.am_fields.specs.Columns.{numbers_bytes, place_of, texts_bytes};
+ghost use Rattle.am_fields.specs.Layout.{id_actor, id_counter, key_counter as counter_of_key, key_string, flat};
 
 use crate::cells::Cell;
-use crate::counting::{count_delta, count_number, count_text};
-use am_delta::DeltaWriter;
-use am_fields::{IdWriter, ListedActors, NumberWriter, TextWriter, text_in};
+use crate::counting::count_text;
+use am_delta::DeltaList;
+use am_fields::{ListedActors, TextWriter, text_in};
 use am_flags::FlagWriter;
-use am_types::{Bytes, Key, Op};
+use am_runs::{UnsignedItem, push_list};
+use am_types::{Bytes, Key, Op, OpId};
 use std::alloc::{AllocError, Global};
 
-/// The column of such numbers.
+/// The column of such numbers, which stand in the room until they are written.
 pub fn numbers_in<C: Cell>(
     alloc: Global,
+    room: &mut Vec<Option<u64>>,
     actors: &ListedActors<'_>,
     ops: &[Op],
 ) -> Result<Bytes, AllocError>
@@ -26,15 +27,13 @@ pub fn numbers_in<C: Cell>(
     requires few { length ops.now ≤ 2 ^ 22 }
     ensures { IfOk result (λ bytes. bytes ≡ numbers_bytes (map (C.cell actors.now) ops.now)) }
 {
-    let mut writer = NumberWriter::new(alloc);
-    let mut last = None;
-    let mut count = 0;
+    room.clear();
     for op in ops {
-        let number = C::of(actors, op);
-        count_number(&mut writer, &mut last, &mut count, number)?;
+        room.push(C::of(actors, op))?;
     }
-    writer.push_alike(last, count)?;
-    writer.finish()
+    let mut bytes = Vec::new(alloc);
+    push_list::<u64, UnsignedItem>(&mut bytes, room.as_slice())?;
+    Ok(Bytes::from(bytes))
 }
 
 // The counter of a key.
@@ -50,20 +49,19 @@ fn key_counter(key: &Key) -> Option<i64>
     }
 }
 
-/// The column of the counters of keys.
-pub fn key_counters_in(alloc: Global, ops: &[Op]) -> Result<Bytes, AllocError>
+/// The column of the counters of keys, which stand in the room until they are written.
+pub fn key_counters_in(alloc: Global, room: &mut DeltaList, ops: &[Op]) -> Result<Bytes, AllocError>
     requires fine { All FineOp ops.now }
     requires few { length ops.now ≤ 2 ^ 22 }
     ensures { IfOk result (λ bytes. bytes ≡ canonical_delta_bytes (map (λ o. counter_of_key o.key) ops.now)) }
 {
-    let mut writer = DeltaWriter::new(alloc);
-    let mut nulls = 0;
+    room.clear();
     for op in ops {
-        let counter = key_counter(&op.key);
-        count_delta(&mut writer, &mut nulls, counter)?;
+        room.push(key_counter(&op.key))?;
     }
-    writer.push_nulls(nulls)?;
-    writer.finish()
+    let mut bytes = Vec::new(alloc);
+    room.push_to(&mut bytes)?;
+    Ok(Bytes::from(bytes))
 }
 
 // The name of a key.
@@ -142,34 +140,65 @@ pub fn raw_in(alloc: Global, ops: &[Op]) -> Result<Bytes, AllocError>
     Ok(Bytes::from(raw))
 }
 
-// Writes the predecessors, one operation after another.
-fn write_preds(
-    writer: &mut IdWriter,
+// Puts the places of the actors of ids behind others.
+fn push_places(
+    room: &mut Vec<Option<u64>>,
     actors: &ListedActors<'_>,
-    ops: &[Op],
+    ids: &[OpId],
 ) -> Result<(), AllocError>
-    requires new { IdsHeld actors.now [] writer.old }
-    requires fine { All FineOp ops.now }
-    requires few { pred_count ops.now ≤ 2 ^ 22 }
-    ensures { OnOk result (IdsHeld actors.now (flat (map (λ o. o.preds) ops.now)) writer.new) }
+    ensures { OnOk result (room.new.items ≡ room.old.items ++ map (option_map (place_of actors.now)) (map id_actor ids.now)) }
 {
-    for op in ops {
-        writer.push_all(actors, op.preds.as_slice())?;
+    for id in ids {
+        room.push(Some(actors.place(id.actor.as_slice())))?;
     }
     Ok(())
 }
 
-/// The columns of the actors and of the counters of predecessors.
-pub fn preds_in(
+// Puts the counters of ids behind others.
+fn push_counters(room: &mut DeltaList, ids: &[OpId]) -> Result<(), AllocError>
+    requires { All IsId ids.now }
+    ensures { OnOk result (room.new ≡ room.old ++ map id_counter ids.now) }
+{
+    for id in ids {
+        room.push(Some(id.counter as i64))?;
+    }
+    Ok(())
+}
+
+/// The column of the actors of predecessors, whose places stand in the room until they are written.
+pub fn pred_actors_in(
     alloc: Global,
+    room: &mut Vec<Option<u64>>,
     actors: &ListedActors<'_>,
     ops: &[Op],
-) -> Result<(Bytes, Bytes), AllocError>
+) -> Result<Bytes, AllocError>
+    requires few { pred_count ops.now ≤ 2 ^ 22 }
+    ensures { IfOk result (λ bytes. bytes ≡ numbers_bytes (map (option_map (place_of actors.now)) (map id_actor (flat (map (λ o. o.preds) ops.now))))) }
+{
+    room.clear();
+    for op in ops {
+        push_places(room, actors, op.preds.as_slice())?;
+    }
+    let mut bytes = Vec::new(alloc);
+    push_list::<u64, UnsignedItem>(&mut bytes, room.as_slice())?;
+    Ok(Bytes::from(bytes))
+}
+
+/// The column of the counters of predecessors, which stand in the room until they are written.
+pub fn pred_counters_in(
+    alloc: Global,
+    room: &mut DeltaList,
+    ops: &[Op],
+) -> Result<Bytes, AllocError>
     requires fine { All FineOp ops.now }
     requires few { pred_count ops.now ≤ 2 ^ 22 }
-    ensures { IfOk result (λ text. IdsSpelled actors.now (flat (map (λ o. o.preds) ops.now)) text.0 text.1) }
+    ensures { IfOk result (λ bytes. bytes ≡ canonical_delta_bytes (map id_counter (flat (map (λ o. o.preds) ops.now)))) }
 {
-    let mut writer = IdWriter::new(alloc);
-    write_preds(&mut writer, actors, ops)?;
-    writer.finish()
+    room.clear();
+    for op in ops {
+        push_counters(room, op.preds.as_slice())?;
+    }
+    let mut bytes = Vec::new(alloc);
+    room.push_to(&mut bytes)?;
+    Ok(Bytes::from(bytes))
 }

@@ -9,9 +9,11 @@ ghost use Rattle.am_opcols.specs.Writing.{written_columns};
 
 use crate::cells::{Action, KeyPlace, Metadata, ObjectCounter, ObjectPlace, PredCount};
 use crate::columns::{
-    expands_in, inserts_in, key_counters_in, key_names_in, marks_in, numbers_in, preds_in, raw_in,
+    expands_in, inserts_in, key_counters_in, key_names_in, marks_in, numbers_in, pred_actors_in,
+    pred_counters_in, raw_in,
 };
 use crate::others::others_of;
+use am_delta::DeltaList;
 use am_fields::{ListedActors, columns_of, specifications};
 use am_types::{ActorId, Bytes, List, Op, Twin};
 use std::alloc::{AllocError, Global};
@@ -27,9 +29,11 @@ pub struct OpsText {
     pub body: Bytes,
 }
 
-// The columns of the operations, one after another.
+// The columns of the operations, one after another. The room is for what stands in one of them.
 fn columns_in(
     alloc: Global,
+    numbers: &mut Vec<Option<u64>>,
+    counters: &mut DeltaList,
     actors: &ListedActors<'_>,
     ops: &[Op],
 ) -> Result<Vec<(u64, Bytes)>, AllocError>
@@ -38,17 +42,18 @@ fn columns_in(
     requires few_preds { pred_count ops.now ≤ 2 ^ 22 }
     ensures { IfOk result (λ columns. columns.items ≡ spellings actors.now (op_columns ops.now)) }
 {
-    let object_actor = numbers_in::<ObjectPlace>(alloc, actors, ops)?;
-    let object_counter = numbers_in::<ObjectCounter>(alloc, actors, ops)?;
-    let key_actor = numbers_in::<KeyPlace>(alloc, actors, ops)?;
-    let key_counter = key_counters_in(alloc, ops)?;
+    let object_actor = numbers_in::<ObjectPlace>(alloc, numbers, actors, ops)?;
+    let object_counter = numbers_in::<ObjectCounter>(alloc, numbers, actors, ops)?;
+    let key_actor = numbers_in::<KeyPlace>(alloc, numbers, actors, ops)?;
+    let key_counter = key_counters_in(alloc, counters, ops)?;
     let key_name = key_names_in(alloc, ops)?;
     let insert = inserts_in(alloc, ops)?;
-    let action = numbers_in::<Action>(alloc, actors, ops)?;
-    let numbers = numbers_in::<Metadata>(alloc, actors, ops)?;
+    let action = numbers_in::<Action>(alloc, numbers, actors, ops)?;
+    let metadata = numbers_in::<Metadata>(alloc, numbers, actors, ops)?;
     let raw = raw_in(alloc, ops)?;
-    let lengths = numbers_in::<PredCount>(alloc, actors, ops)?;
-    let (places, counters) = preds_in(alloc, actors, ops)?;
+    let lengths = numbers_in::<PredCount>(alloc, numbers, actors, ops)?;
+    let pred_actor = pred_actors_in(alloc, numbers, actors, ops)?;
+    let pred_counter = pred_counters_in(alloc, counters, ops)?;
     let expand = expands_in(alloc, ops)?;
     let mark = marks_in(alloc, ops)?;
     let mut columns = Vec::with_capacity(alloc, 14)?;
@@ -59,11 +64,11 @@ fn columns_in(
     columns.push((specifications::KEY_NAME, key_name))?;
     columns.push((specifications::INSERT, insert))?;
     columns.push((specifications::ACTION, action))?;
-    columns.push((specifications::VALUE_METADATA, numbers))?;
+    columns.push((specifications::VALUE_METADATA, metadata))?;
     columns.push((specifications::VALUE_RAW, raw))?;
     columns.push((specifications::PRED_COUNT, lengths))?;
-    columns.push((specifications::PRED_ACTOR, places))?;
-    columns.push((specifications::PRED_COUNTER, counters))?;
+    columns.push((specifications::PRED_ACTOR, pred_actor))?;
+    columns.push((specifications::PRED_COUNTER, pred_counter))?;
     columns.push((specifications::EXPAND, expand))?;
     columns.push((specifications::MARK, mark))?;
     Ok(columns)
@@ -81,7 +86,9 @@ fn text_of(
     ensures metadata { IfOk result (λ text. text.0 ≡ metadata (listing (not_empty (spellings actors.now (op_columns ops.now))))) }
     ensures body { IfOk result (λ text. text.1 ≡ body (not_empty (spellings actors.now (op_columns ops.now)))) }
 {
-    let columns = columns_in(alloc, actors, ops)?;
+    let mut numbers = Vec::with_capacity(alloc, ops.len())?;
+    let mut counters = DeltaList::new(alloc);
+    let columns = columns_in(alloc, &mut numbers, &mut counters, actors, ops)?;
     columns_of(alloc, &columns)
 }
 

@@ -1,10 +1,6 @@
-use Rattle.std.proofs.Common.{◌≤◌, None, map, take}
+use Rattle.std.proofs.Common.{◌≡◌, map, take}
 use Rattle.am_fields.specs.Layout.{key_counter}
-use Rattle.am_opcols.specs.Counting.{Counts}
 use Rattle.am_opcols.proofs.columns.key_counters_in.Given as goal
 
 abbrev pub invariant-loop-op : goal.invariant-loop-op
-invariant-loop-op l = record {
-  few : l.nulls ≤ l.op-index;
-  counts : Counts (map (λ o. key_counter o.key) (take l.op-index l.ops)) l.writer None l.nulls;
-}
+invariant-loop-op l = l.room ≡ map (λ o. key_counter o.key) (take l.op-index l.ops)
