@@ -1,7 +1,7 @@
 //! Lists with their spellings, from worked examples of the format.
 use am_runs::{
     Item, RunCursor, RunWriter, SignedCursor, SignedItem, TextCursor, TextItem, UnsignedCursor,
-    UnsignedItem, is_canonical,
+    UnsignedItem, is_canonical, push_list,
 };
 use std::alloc::AllocError;
 
@@ -24,6 +24,32 @@ fn written_numbers(rt: HostRuntime) -> Result<(), AllocError> {
     assert!(rt; UnsignedItem::end(&[3]) == Some(1));
     writer.push(Some(&[3]))?;
     assert!(rt; writer.finish()?.as_slice() == &[0x7d, 1, 2, 3][..]);
+    Ok(())
+}
+
+#[test]
+fn written_at_once(rt: HostRuntime) -> Result<(), AllocError> {
+    let rows: &[(&[Option<u64>], &[u8])] = &[
+        (&[], &[]),
+        (&[None, None], &[]),
+        (&[Some(1), Some(2), Some(3)], &[0x7d, 1, 2, 3]),
+        (&[Some(1), Some(1), None], &[2, 1, 0, 1]),
+        (
+            &[None, Some(5), Some(5), Some(5), Some(300)],
+            &[0, 1, 3, 5, 0x7f, 0xac, 2],
+        ),
+        (
+            &[Some(1), Some(2), Some(2), Some(1)],
+            &[0x7f, 1, 2, 2, 0x7f, 1],
+        ),
+        (&[Some(1), Some(2), Some(2), Some(2)], &[0x7f, 1, 3, 2]),
+    ];
+    for &(values, bytes) in rows {
+        assert!(rt; values.len() <= 5);
+        let mut out = Vec::new(rt.alloc());
+        push_list::<u64, UnsignedItem>(&mut out, values)?;
+        assert!(rt; out.as_slice() == bytes, "of {values:?}");
+    }
     Ok(())
 }
 
