@@ -1,7 +1,6 @@
 -- Changes with what was built of them, which an empty store can take over.
 --     IsBuilt es b         graph and index are those of the entries es, which are a valid set, and the document has their rows
---     AreBuilt es built    they are so, where there are any
-use Rattle.std.specs.Prelude.{◌≡◌, List, Option, IfSome}
+use Rattle.std.specs.Prelude.{◌≡◌, List}
 use Rattle.am_types.specs.declared.Hash.{Hash}
 use Rattle.am_types.specs.declared.Change.{Change}
 use Rattle.am_types.specs.Members.{changes}
@@ -16,6 +15,3 @@ pub record IsBuilt (es : List (Hash × Change)) (b : Built) : Type 0 where
   pub of_set : AreOf (members_of es) b.graph b.index
   pub valid : Valid (members_of es)
   pub rows_are : b.doc.rows ≡ rows (all_operations (changes (members_of es)))
-
-abbrev pub AreBuilt : List (Hash × Change) → Option Built → Type 0
-AreBuilt es built = IfSome built (IsBuilt es)

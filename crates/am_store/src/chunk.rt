@@ -111,7 +111,7 @@ fn push_document<'a>(
         Ok(document) => document,
         Err(fault) => return Err(not_rebuilt(fault)),
     };
-    changes.append(document, doc)?;
+    changes.append(alloc, document, doc)?;
     Ok(())
 }
 

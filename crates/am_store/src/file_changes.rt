@@ -30,21 +30,21 @@ pub struct Built<'a> {
 #[derive(Drop)]
 pub struct FileChanges<'a> {
     pub(crate) entries: Vec<(Hash, Change)>,
-    /// What is built of them, while they are those of one document alone.
-    pub(crate) built: Option<Built<'a>>,
+    /// What is built of them, while they are those of one document alone. A box is let go in one step of a proof.
+    pub(crate) built: Option<Box<Built<'a>>>,
 }
 
 impl<'a> Model for FileChanges<'a> {
-    ghost use Rattle.std.specs.Prelude.{List};
+    ghost use Rattle.std.specs.Prelude.{List, IfSome};
     ghost use Rattle.am_types.specs.declared.Hash.{Hash};
     ghost use Rattle.am_types.specs.declared.Change.{Change};
-    ghost use Rattle.am_store.specs.Adopting.{AreBuilt};
+    ghost use Rattle.am_store.specs.Adopting.{IsBuilt};
 
     ghost Value = { List (Hash × Change) };
 
     ghost view = { λ f. f.entries.items };
 
-    ghost invariant = { λ f. AreBuilt f.entries.items f.built };
+    ghost invariant = { λ f. IfSome f.built (λ b. IsBuilt f.entries.items b.value) };
 }
 
 /// The changes of a document alone.
@@ -55,7 +55,7 @@ pub fn entries_of(document: Rebuilt) -> Vec<(Hash, Change)>
 }
 
 // What was built is let go.
-fn let_go(built: &mut Option<Built<'_>>)
+fn let_go(built: &mut Option<Box<Built<'_>>>)
     ensures { built.new ≡ None }
 {
     *built = None;
@@ -82,34 +82,40 @@ impl<'a> FileChanges<'a> {
     }
 
     /// The changes of a document, behind those that are there. Where they are the first, what was built of them is kept.
-    pub fn append(&mut self, document: Rebuilt, doc: DocRef<'a>) -> Result<(), AllocError>
+    pub fn append(
+        &mut self,
+        alloc: Global,
+        document: Rebuilt,
+        doc: DocRef<'a>,
+    ) -> Result<(), AllocError>
         requires of_set { AreOf (members_of (vec_items document.entries)) document.graph document.index }
         requires valid { Valid (members_of (vec_items document.entries)) }
         requires rows { doc.rows ≡ rows (all_operations (changes (members_of (vec_items document.entries)))) }
         ensures { OnOk result (self.new ≡ self.old ++ vec_items document.entries) }
     {
         if self.entries.is_empty() {
-            self.begin(document, doc);
-            return Ok(());
+            return self.begin(alloc, document, doc);
         }
         self.go_on(entries_of(document))
     }
 
     /// The changes of a document, where there are none yet.
-    fn begin(&mut self, document: Rebuilt, doc: DocRef<'a>)
+    fn begin(&mut self, alloc: Global, document: Rebuilt, doc: DocRef<'a>) -> Result<(), AllocError>
         requires none { self.old ≡ [] }
         requires of_set { AreOf (members_of (vec_items document.entries)) document.graph document.index }
         requires valid { Valid (members_of (vec_items document.entries)) }
         requires rows { doc.rows ≡ rows (all_operations (changes (members_of (vec_items document.entries)))) }
-        ensures { self.new ≡ vec_items document.entries }
+        ensures { OnOk result (self.new ≡ vec_items document.entries) }
     {
         let Rebuilt {
             entries,
             graph,
             index,
         } = document;
+        let built = Box::new(alloc, Built { graph, index, doc })?;
         self.entries = entries;
-        self.built = Some(Built { graph, index, doc });
+        self.built = Some(built);
+        Ok(())
     }
 
     /// More changes, behind those that are there.

@@ -157,10 +157,10 @@ impl Store {
         &mut self,
         alloc: Global,
         entries: Vec<(Hash, Change)>,
-        built: Built<'_>,
+        built: Box<Built<'_>>,
     ) -> Result<Report, AllocError>
         requires empty { self.old ≡ nothing }
-        requires built { IsBuilt (vec_items entries) built }
+        requires built { IsBuilt (vec_items entries) built.value }
         requires own_hashes { HasOwnHashes (members_of (vec_items entries)) }
         ensures ok { IfOk result (λ report. Takes self.old (members_of (vec_items entries)) report self.new) }
         ensures order { OnOk result (ComesInAnyOrder self.old (members_of (vec_items entries)) self.new) }
@@ -170,19 +170,19 @@ impl Store {
         listing_is_free();
         order_is_free();
         valid_sets_keep_rules();
-        let lent = all_lent(alloc, entries.as_slice())?;
-        let contents = respelled(alloc, &built.doc, lent.as_slice(), &built.graph)?;
+        let contents = contents_for(alloc, entries.as_slice(), &built)?;
+        let (own_graph, own_index) = parts_of(built);
         let report = Report {
             added: count_of(entries.as_slice()),
             waiting: 0,
             rejected: List::new(alloc),
         };
         self.waiting.pending = None;
-        self.counts = counted(built.index.totals(), 0);
+        self.counts = counted(own_index.totals(), 0);
         self.closed = Unseen::of(entries.as_slice());
         self.contents = contents;
-        self.graph = built.graph;
-        self.index = built.index;
+        self.graph = own_graph;
+        self.index = own_index;
         Ok(report)
     }
 
@@ -358,6 +358,31 @@ impl Store {
         let list = changes_among(alloc, entries.as_slice(), hashes.as_slice())?;
         Ok(list)
     }
+}
+
+/// The contents of the document of changes with what was built of them.
+fn contents_for(
+    alloc: Global,
+    entries: &[(Hash, Change)],
+    built: &Built<'_>,
+) -> Result<Bytes, AllocError>
+    requires { IsBuilt entries.now built.now }
+    ensures { IfOk result (λ contents. contents ≡ body (table (members_of entries.now))) }
+{
+    let lent = all_lent(alloc, entries)?;
+    respelled(alloc, &built.doc, lent.as_slice(), &built.graph)
+}
+
+/// The graph and the index. The document is let go.
+fn parts_of(built: Box<Built<'_>>) -> (Graph, OpIndex)
+    ensures { result ≡ (built.entry.value.graph, built.entry.value.index) }
+{
+    let Built {
+        graph,
+        index,
+        doc: _,
+    } = Box::into_inner(built);
+    (graph, index)
 }
 
 /// How many changes there are.
