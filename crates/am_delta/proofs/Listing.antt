@@ -1,5 +1,5 @@
 -- What a list keeps that is spelled at once, with one value more.
-use Rattle.std.proofs.Common.{◌≡◌, List, [], ◌∷◌, ◌++◌, map, Option, Some, ℤ, pos, sym, ap, ◌∙◌, subst}
+use Rattle.std.proofs.Common.{◌≡◌, List, [], ◌∷◌, ◌++◌, map, Option, ℤ, pos, sym, ap, ◌∙◌, subst}
 use Rattle.std.specs.Option.{IfSome, option_map}
 use Rattle.am_leb.specs.Leb.{leb}
 use Rattle.am_runs.specs.Canonical.{canonical_bytes}

@@ -56,7 +56,8 @@ impl DeltaList {
         Ok(())
     }
 
-    /// Appends the one canonical spelling of the values to the bytes. An error says that memory was wanted.
+    /// Appends the one canonical spelling of the values to the bytes. An error says that memory was wanted; some of it may be
+    /// there then.
     pub fn push_to(&self, out: &mut Vec<u8>) -> Result<(), AllocError>
         requires { length self.now ≤ 2 ^ 32 }
         ensures { OnOk result (out.new.items ≡ out.old.items ++ canonical_delta_bytes self.now) }

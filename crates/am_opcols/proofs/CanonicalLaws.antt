@@ -1,5 +1,5 @@
 -- What fine operations hold may be written.
-use Rattle.std.proofs.Common.{◌≡◌, ◌+◌, ◌≤◌, ◌^◌, List, [], ◌∷◌, length, map, refl, sym, ap, ◌∙◌, arith}
+use Rattle.std.proofs.Common.{◌≡◌, ◌+◌, List, [], ◌∷◌, length, map, refl, sym, ap, ◌∙◌}
 use Rattle.std.specs.Prelude.{All}
 use Rattle.std.specs.List.{AllByRecursion}
 use Rattle.std.proofs.lemmas.List.{length-append}
@@ -8,7 +8,6 @@ use Rattle.am_types.specs.declared.Op.{Op}
 use Rattle.am_types.specs.Fine.{IsId, IsKey, FineOp, pred_count}
 use Rattle.am_delta.specs.Deltas.{AreMiddling}
 use Rattle.am_values.specs.Columns.{AllGood}
-use Rattle.am_fields.specs.Held.{IdsFit}
 use Rattle.am_fields.specs.Layout.{key_counter, id_counter, flat}
 use Rattle.am_fields.proofs.CanonicalLaws as fields
 use Rattle.am_fields.proofs.Lists.{all-append}
@@ -36,6 +35,3 @@ values_good (o ∷ ops) all = ((All-head FineOp o ops all).value, values_good op
 pub length-preds : (ops : List Op) → length (flat (map (λ o. o.preds) ops)) ≡ pred_count ops
 length-preds [] = refl
 length-preds (o ∷ ops) = length-append o.preds (flat (map (λ o. o.preds) ops)) ∙ ap (λ n. length o.preds + n) (length-preds ops) ∙ sym (pred_count-cons o ops)
-
-pub preds_fit : (ops : List Op) → All FineOp ops → pred_count ops ≤ 2 ^ 22 → IdsFit (flat (map (λ o. o.preds) ops))
-preds_fit ops all few = record { counters = preds_middling ops all; few = omega (arith, length-preds ops) }

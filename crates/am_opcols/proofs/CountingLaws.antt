@@ -22,10 +22,6 @@ pub counts_written : {A : Type 0} (xs : List A) (w v : Option (List A)) (last : 
 counts_written xs None v last n h step = absurd h
 counts_written xs (Some ys) v last n h step = step ∙ ap Some h
 
--- and another one is counted
-pub counts_other : {A : Type 0} (xs : List A) (w v : Option (List A)) (last : A) (n : ℕ) (x : A) → Counts xs w last n → IfSome w (λ ys. v ≡ Some (ys ++ replicate n last)) → Counts (xs ++ x ∷ []) v x 1
-counts_other {A = A} xs w v last n x h step = subst (λ (u : Option (List A)). Counts (xs ++ x ∷ []) u x 1) (sym (counts_written xs w v last n h step)) refl
-
 -- all is written
 pub counts_all : {A : Type 0} (xs : List A) (w : Option (List A)) (last : A) → w ≡ Some xs → Counts xs w last 0
 counts_all {A = A} xs w last e = subst (λ (u : Option (List A)). Counts xs u last 0) (sym e) (append-nil xs)
@@ -66,10 +62,6 @@ room_behind (Some ys) (Some zs) last n m none some room =
 pub if_none_first : {A : Type 0} (w : Option A) (P Q : Type 0) → IfNone w (P × Q) → IfNone w P
 if_none_first None P Q h = h.0
 if_none_first (Some x) P Q h = tt
-
-pub no_item : {A : Type 0} (o : Option A) → is_some o ≡ false → None ≡ o
-no_item None e = refl
-no_item (Some x) e = absurd (cc)
 
 pub no_cell : {A B : Type 0} (f : A → B) (o : Option A) → is_some o ≡ false → None ≡ option_map f o
 no_cell f None e = refl

@@ -294,7 +294,7 @@ fn entry_at<V: Copy, K: Spells<V>>(
 }
 
 /// Appends the one canonical spelling of the values and nulls, which is no bytes for nulls alone. Each item is written where
-/// it stays. An error says that memory was wanted.
+/// it stays. An error says that memory was wanted; some of it may be there then.
 pub fn push_list<V: Copy, K: Spells<V>>(
     out: &mut Vec<u8>,
     values: &[Option<V>],

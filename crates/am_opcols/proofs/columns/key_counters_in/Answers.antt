@@ -1,9 +1,7 @@
-use Rattle.std.proofs.Common.{◌≡◌, ◌+◌, ◌∷◌, ◌++◌, [], List, length, map, take, arith, sym, ap, ◌∙◌}
+use Rattle.std.proofs.Common.{◌+◌, ◌∷◌, ◌++◌, [], length, map, take, arith, sym, ap, ◌∙◌}
 use Rattle.std.proofs.lemmas.List.{length-map, length-take-le}
-use Rattle.am_types.specs.declared.Op.{Op}
-use Rattle.am_delta.specs.Deltas.{canonical_delta_bytes}
 use Rattle.am_fields.specs.Layout.{key_counter}
-use Rattle.am_opcols.proofs.WriteLaws.{fine_at, field_next, all_taken}
+use Rattle.am_opcols.proofs.WriteLaws.{fine_at, field_next}
 use Rattle.am_opcols.proofs.columns.key_counters_in.Goals as goal
 
 pub key_counter-requires : goal.key_counter-requires

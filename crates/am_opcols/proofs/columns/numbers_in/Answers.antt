@@ -1,8 +1,6 @@
-use Rattle.std.proofs.Common.{◌≡◌, ◌+◌, ◌∷◌, ◌++◌, [], List, length, map, take, arith, sym, ap, ◌∙◌}
+use Rattle.std.proofs.Common.{◌+◌, ◌∷◌, ◌++◌, [], length, map, take, arith, sym, ap, ◌∙◌}
 use Rattle.std.proofs.lemmas.List.{length-map, length-take-le}
-use Rattle.am_types.specs.declared.Op.{Op}
-use Rattle.am_fields.specs.Columns.{numbers_bytes}
-use Rattle.am_opcols.proofs.WriteLaws.{fine_at, field_next, all_taken}
+use Rattle.am_opcols.proofs.WriteLaws.{fine_at, field_next}
 use Rattle.am_opcols.proofs.columns.numbers_in.Goals as goal
 
 pub of-requires : goal.of-requires

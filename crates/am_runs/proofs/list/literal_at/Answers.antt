@@ -1,4 +1,3 @@
-use Rattle.std.proofs.Common.{◌≡◌, false, true, sym, ◌∙◌}
 use Rattle.am_runs.proofs.Listing.{literal_more}
 use Rattle.am_runs.proofs.list.literal_at.Goals as goal
 
