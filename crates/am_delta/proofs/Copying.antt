@@ -30,11 +30,6 @@ pub last_none : (value : ℤ) (n : ℕ) (list : List (Option ℤ)) → n ≡ 0 �
 last_none value zero list e = refl
 last_none value (suc n) list e = absurd (omega arith)
 
-pub last_empty : (value : ℤ) (n : ℕ) (list : List (Option ℤ)) → list ≡ [] → last_from value (sums_from value (take n list)) ≡ value
-last_empty value zero list e = refl
-last_empty value (suc n) [] e = refl
-last_empty value (suc n) (x ∷ list) e = absurd (cc)
-
 -- ---- what a writer holds
 
 numbers_back : (ds : List (Option ℤ)) → signed_numbers (map (option_map leb) ds) ≡ ds

@@ -7,6 +7,7 @@
 --     canonical_delta_bytes values       these bytes
 --     stretch first difference count     so many values, each this difference above the one before it
 --     AllBetween, AllFit, AreMiddling    limits of the values that aren't null
+--     KeepsLast differences last         `last` is the last value that isn't null
 use Rattle.std.specs.Prelude.{◌≡◌, ◌⊎◌, ℕ, List, [], ◌∷◌, map, Option, Some, None, Bool, true, false, ℤ, pos, neg_ℤ, ◌+ℤ◌, ◌-ℤ◌, ◌*ℤ◌, ◌≤ℤ◌, ◌<ℤ◌, ◌^◌, ◌-◌, replicate, IfSome, FitsSigned}
 use Rattle.std.specs.Int.{w64}
 use Rattle.std.specs.Option.{option_map}
@@ -102,6 +103,6 @@ AreMiddling values = AllByRecursion (λ value. IfSome value IsMiddling) values
 abbrev pub canonical_delta_bytes : List (Option ℤ) → List ℕ
 canonical_delta_bytes values = canonical_bytes (map (option_map leb) (differences_from (pos 0) values))
 
--- what a list keeps that is spelled at once
-abbrev pub IsListing : List (Option ℤ) → ℤ → Type 0
-IsListing differences last = IsMiddling last × (last ≡ last_from (pos 0) (sums_from (pos 0) differences))
+-- `last` is the last value that isn't null, or 0; a list that is spelled at once keeps it
+abbrev pub KeepsLast : List (Option ℤ) → ℤ → Type 0
+KeepsLast differences last = IsMiddling last × (last ≡ last_from (pos 0) (sums_from (pos 0) differences))

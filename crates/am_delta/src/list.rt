@@ -19,11 +19,11 @@ impl Model for DeltaList {
 
     ghost Value = { List (Option ℤ) };
 
-    ghost use Rattle.am_delta.specs.Deltas.{sums_from, IsListing};
+    ghost use Rattle.am_delta.specs.Deltas.{sums_from, KeepsLast};
 
     ghost view = { λ a. sums_from (pos 0) a.differences.items };
 
-    ghost invariant = { λ a. IsListing a.differences.items a.last };
+    ghost invariant = { λ a. KeepsLast a.differences.items a.last };
 }
 
 impl DeltaList {
@@ -56,8 +56,8 @@ impl DeltaList {
         Ok(())
     }
 
-    /// Appends the one canonical spelling of the values to the bytes. An error says that memory was wanted; some of it may be
-    /// there then.
+    /// Appends the one canonical spelling of the values to the bytes. An error says that memory was wanted; what the bytes are
+    /// then isn't said.
     pub fn push_to(&self, out: &mut Vec<u8>) -> Result<(), AllocError>
         requires { length self.now ≤ 2 ^ 32 }
         ensures { OnOk result (out.new.items ≡ out.old.items ++ canonical_delta_bytes self.now) }

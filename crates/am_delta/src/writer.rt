@@ -51,6 +51,7 @@ fn put_alike(
     }
 }
 
+/// The value less the last one that wasn't null.
 pub fn difference_to(value: Option<i64>, last: i64) -> Option<i64>
     requires value { IfSome value IsMiddling }
     requires last { IsMiddling last }
@@ -62,6 +63,7 @@ pub fn difference_to(value: Option<i64>, last: i64) -> Option<i64>
     }
 }
 
+/// The value, or in place of a null the last one that wasn't.
 pub fn value_or(value: Option<i64>, last: i64) -> i64
     ensures { result ≡ or_last value last }
 {

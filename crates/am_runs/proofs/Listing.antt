@@ -25,12 +25,6 @@ snoc_front xs ys x y e =
     let n : length xs ≡ length ys = omega (arith, ap length e, length-append xs (x ∷ []), length-append ys (y ∷ [])) in
     sym (take-append_seam xs (x ∷ [])) ∙ ap (take (length xs)) e ∙ ap (λ k. take k (ys ++ y ∷ [])) n ∙ take-append_seam ys (y ∷ [])
 
-pub snoc_last : {A : Type 0} (xs ys : List A) (x y : A) → xs ++ x ∷ [] ≡ ys ++ y ∷ [] → x ≡ y
-snoc_last xs ys x y e =
-    let n : length xs ≡ length ys = omega (arith, ap length e, length-append xs (x ∷ []), length-append ys (y ∷ [])) in
-    let d : x ∷ [] ≡ y ∷ [] = sym (drop-append_seam xs (x ∷ [])) ∙ ap (drop (length xs)) e ∙ ap (λ k. drop k (ys ++ y ∷ [])) n ∙ drop-append_seam ys (y ∷ []) in
-    cc
-
 -- the entries before a place, and the one there
 entries_next : {V : Type 0} (f : V → List ℕ) (values : List (Option V)) (place : ℕ) (entry : Option V) → take (place + 1) values ≡ take place values ++ entry ∷ []
     → map (option_map f) (take (place + 1) values) ≡ map (option_map f) (take place values) ++ option_map f entry ∷ []

@@ -1,6 +1,6 @@
 -- A list of values that is spelled at once, and what stands before a place of it.
 --     spelled f values          the items of the values, one after another; a null has none
---     IsRunBefore f values place kind count front last     the pending run ends before the place
+--     IsRunBefore f values place kind count front last     the items of the pending run stand before the place
 --     Stands end f start bytes values place kind count     behind the start, the bytes and the pending run spell the values before the place
 use Rattle.std.specs.Prelude.{◌≡◌, ℕ, List, [], ◌∷◌, ◌++◌, length, map, take, Option, Some, None}
 use Rattle.std.specs.Option.{option_map}
@@ -14,7 +14,7 @@ spelled f [] = []
 spelled f (None ∷ values) = spelled f values
 spelled f (Some v ∷ values) = f v ++ spelled f values
 
--- so many nulls, so many of the value before the place, or so many values and that one
+-- where the items of the pending run are read: of a repeat the last value, of a literal run so many values and that one
 abbrev pub IsRunBefore : {V : Type 0} → (V → List ℕ) → List (Option V) → ℕ → PendingKind → ℕ → List ℕ → List ℕ → Type 0
 IsRunBefore f values place pending.Nothing count front last = Unit {0}
 IsRunBefore f values place pending.Nulls count front last = Unit {0}

@@ -64,9 +64,9 @@ impl Spells<i64> for SignedItem {
 // The run that is pending before a place of a list: so many nulls, so many of the value before the place, or so many
 // values and that one, each unlike the one before it.
 #[derive(Clone, Copy)]
-pub struct PendingRun {
-    pub kind: PendingKind,
-    pub count: u64,
+struct PendingRun {
+    kind: PendingKind,
+    count: u64,
 }
 
 // Appends the item of a value. A null has none.
@@ -293,8 +293,8 @@ fn entry_at<V: Copy, K: Spells<V>>(
     }
 }
 
-/// Appends the one canonical spelling of the values and nulls, which is no bytes for nulls alone. Each item is written where
-/// it stays. An error says that memory was wanted; some of it may be there then.
+/// Appends the one canonical spelling of the values and nulls, which is no bytes for nulls alone. Each item is spelled once,
+/// straight into the bytes. An error says that memory was wanted; what the bytes are then isn't said.
 pub fn push_list<V: Copy, K: Spells<V>>(
     out: &mut Vec<u8>,
     values: &[Option<V>],

@@ -30,7 +30,7 @@ pub struct Pending {
     pub last: Vec<u8>,
 }
 
-// A run's number: so many, or where it is of a literal run, less than minus so many by one.
+// Appends a run's number: `count`, of a literal run -1 - `count`.
 pub fn push_header(out: &mut Vec<u8>, literal: bool, count: u64) -> Result<(), AllocError>
     requires { count < 2 ^ 63 }
     ensures { OnOk result (out.new.items ≡ out.old.items ++ leb (from_magnitude literal count)) }
