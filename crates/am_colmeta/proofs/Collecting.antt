@@ -1,13 +1,13 @@
 -- The steps of the writer of columns.
 use Rattle.std.proofs.Common.{◌≡◌, ℕ, ◌<◌, ◌^◌, Bool, true, false, List, [], ◌∷◌, ◌++◌, length, Option, Some, None, sym, ap, ◌∙◌, subst, arith, length-append}
 use Rattle.std.specs.Option.{IfSome}
-use Rattle.std.specs.List.{flat_map, count_by, AllByRecursion}
-use Rattle.am_leb.specs.Leb.{uleb}
+use Rattle.std.specs.Prelude.{filter}
+use Rattle.std.specs.List.{AllByRecursion}
 use Rattle.am_colmeta.specs.Metadata.{metadata, listing, not_empty, total, body, Ascend, AscendFrom, IsPair, AreListed}
 use Rattle.am_colmeta.specs.Reading.{cut}
-use Rattle.am_colmeta.specs.Writing.{IsAbove, has_length, entry_bytes, columns_written, IsCollecting}
+use Rattle.am_colmeta.specs.Writing.{IsAbove, has_length, columns_written, IsCollecting}
 use Rattle.am_colmeta.proofs.Cutting.{total-push, cut-push, Ascend-push, listing-cut, body-cut}
-use Rattle.am_colmeta.proofs.Entries.{metadata_written, count-entries, body-not_empty}
+use Rattle.am_colmeta.proofs.Entries.{listing-kept, body-not_empty}
 
 pairs-push : (listed : List (ℕ × ℕ)) (pair : ℕ × ℕ) → AllByRecursion IsPair listed → IsPair pair → AllByRecursion IsPair (listed ++ pair ∷ [])
 pairs-push [] pair all h = (h, tt)
@@ -58,18 +58,18 @@ pub record Finished (columns : List (ℕ × List ℕ)) (metadata_bytes body_byte
 
 pub finished : (failed : Bool) (listed lent : List (ℕ × ℕ)) (bytes before written : List ℕ) (columns : Option (List (ℕ × List ℕ)))
     → failed ≡ false → columns_written failed listed bytes ≡ columns → IsCollecting failed listed bytes → before ≡ []
-    → count_by has_length lent < 2 ^ 64 → lent ≡ listed → written ≡ before ++ uleb (count_by has_length lent) ++ flat_map entry_bytes lent
+    → length (filter has_length lent) < 2 ^ 64 → lent ≡ listed → written ≡ before ++ metadata (filter has_length lent)
     → IfSome columns (λ columns. Finished columns written bytes)
 finished true listed lent bytes before written columns f v h b few l e = absurd (cc f)
 finished false listed lent bytes before written columns f v h b few l e =
     let same : listing (cut listed bytes) ≡ listed = listing-cut listed bytes (omega (arith, h.0)) in
-    let count : count_by has_length lent ≡ length (listing (not_empty (cut listed bytes))) = ap (count_by has_length) (l ∙ sym same) ∙ count-entries (cut listed bytes) in
+    let kept : filter has_length lent ≡ listing (not_empty (cut listed bytes)) = ap (filter has_length) (l ∙ sym same) ∙ listing-kept (cut listed bytes) in
     let P : Option (List (ℕ × List ℕ)) → Type 0 = λ o. IfSome o (λ columns. Finished columns written bytes) in
     subst P v (record {
-      metadata_are = e ∙ ap (λ z. before ++ uleb (count_by has_length z) ++ flat_map entry_bytes z) l ∙ metadata_written listed bytes before h.0 b;
+      metadata_are = e ∙ (λ j. b j ++ metadata (kept j));
       body_are = sym (body-cut listed bytes h.0) ∙ sym (body-not_empty (cut listed bytes));
       ascending = Ascend-not_empty (cut listed bytes) (subst Ascend (sym same) h.1);
-      listed = (subst (λ n. n < 2 ^ 64) count few, pairs-not_empty (cut listed bytes) (subst (AllByRecursion IsPair) (sym same) h.2));
+      listed = (subst (λ (pairs : List (ℕ × ℕ)). length pairs < 2 ^ 64) kept few, pairs-not_empty (cut listed bytes) (subst (AllByRecursion IsPair) (sym same) h.2));
     })
 
 pub if_some : {A : Type 0} {P Q : A → Type 0} (o : Option A) → ((x : A) → P x → Q x) → IfSome o P → IfSome o Q

@@ -1,45 +1,33 @@
 -- The metadata that a writer leaves: the entries of the columns that are not empty.
-use Rattle.std.proofs.Common.{◌≡◌, ℕ, suc, ◌+◌, true, cond, nat_lt, List, [], ◌∷◌, ◌++◌, length, refl, sym, ap, ◌∙◌, arith}
+use Rattle.std.proofs.Common.{◌≡◌, ℕ, suc, true, false, Bool, cond, nat_lt, List, [], ◌∷◌, ◌++◌, length, refl, sym, ap, ◌∙◌, arith}
+use Rattle.std.specs.Prelude.{filter}
 use Rattle.std.specs.List.{flat_map, count_by}
 use Rattle.std.proofs.lemmas.Bool.Decides.{nat_tests}
-use Rattle.std.proofs.lemmas.List.Sums.{sum_by-cons}
-use Rattle.am_colmeta.specs.Metadata.{pair_bytes, metadata, listing, not_empty, total, body}
-use Rattle.am_colmeta.specs.Reading.{cut}
+use Rattle.std.proofs.lemmas.List.Sums.{length-filter}
+use Rattle.am_colmeta.specs.Metadata.{pair_bytes, metadata, listing, not_empty, body}
 use Rattle.am_colmeta.specs.Writing.{has_length, entry_bytes}
-use Rattle.am_colmeta.proofs.Cutting.{listing-cut}
 use Rattle.am_leb.specs.Leb.{uleb}
 
-count-cons : (pair : ℕ × ℕ) (listed : List (ℕ × ℕ)) → count_by has_length (pair ∷ listed) ≡ cond (has_length pair) 1 0 + count_by has_length listed
-count-cons pair listed = sum_by-cons (λ x. cond (has_length x) 1 0) pair listed
+kept : (b : Bool) (pair : ℕ × ℕ) (listed : List (ℕ × ℕ)) → flat_map entry_bytes listed ≡ flat_map pair_bytes (filter has_length listed)
+    → cond b (pair_bytes pair) [] ++ flat_map entry_bytes listed ≡ flat_map pair_bytes (cond b (pair ∷ filter has_length listed) (filter has_length listed))
+kept true pair listed e = ap (λ l. pair_bytes pair ++ l) e
+kept false pair listed e = e
 
-pub count-entries : (columns : List (ℕ × List ℕ)) → count_by has_length (listing columns) ≡ length (listing (not_empty columns))
-count-entries [] = refl
-count-entries ((specification, []) ∷ columns) = count-cons (specification, 0) (listing columns) ∙ (let more = count-entries columns in omega arith)
-count-entries ((specification, (byte ∷ bytes)) ∷ columns) =
+entries-kept : (listed : List (ℕ × ℕ)) → flat_map entry_bytes listed ≡ flat_map pair_bytes (filter has_length listed)
+entries-kept [] = refl
+entries-kept (pair ∷ listed) = kept (has_length pair) pair listed (entries-kept listed)
+
+-- what is written are the metadata of the columns that have bytes
+pub metadata-entries : (listed : List (ℕ × ℕ)) → uleb (count_by has_length listed) ++ flat_map entry_bytes listed ≡ metadata (filter has_length listed)
+metadata-entries listed = (λ j. uleb (sym (length-filter has_length listed) j) ++ entries-kept listed j)
+
+pub listing-kept : (columns : List (ℕ × List ℕ)) → filter has_length (listing columns) ≡ listing (not_empty columns)
+listing-kept [] = refl
+listing-kept ((specification, []) ∷ columns) = listing-kept columns
+listing-kept ((specification, (byte ∷ bytes)) ∷ columns) =
     let t : nat_lt 0 (suc (length bytes)) ≡ true = grind (arith, nat_tests) in
-    count-cons (specification, suc (length bytes)) (listing columns)
-    ∙ ap (λ b. cond b 1 0 + count_by has_length (listing columns)) t
-    ∙ (let more = count-entries columns in omega arith)
-
-pub bytes-entries : (columns : List (ℕ × List ℕ)) → flat_map entry_bytes (listing columns) ≡ flat_map pair_bytes (listing (not_empty columns))
-bytes-entries [] = refl
-bytes-entries ((specification, []) ∷ columns) = bytes-entries columns
-bytes-entries ((specification, (byte ∷ bytes)) ∷ columns) =
-    let t : nat_lt 0 (suc (length bytes)) ≡ true = grind (arith, nat_tests) in
-    ap (λ b. cond b (pair_bytes (specification, suc (length bytes))) [] ++ flat_map entry_bytes (listing columns)) t
-    ∙ ap (λ l. pair_bytes (specification, suc (length bytes)) ++ l) (bytes-entries columns)
-
-pub metadata-entries : (columns : List (ℕ × List ℕ)) → uleb (count_by has_length (listing columns)) ++ flat_map entry_bytes (listing columns) ≡ metadata (listing (not_empty columns))
-metadata-entries columns =
-    ap (λ n. uleb n ++ flat_map entry_bytes (listing columns)) (count-entries columns)
-    ∙ ap (λ l. uleb (length (listing (not_empty columns))) ++ l) (bytes-entries columns)
-
-pub metadata_written : (listed : List (ℕ × ℕ)) (bytes before : List ℕ) → total listed ≡ length bytes → before ≡ []
-    → (before ++ uleb (count_by has_length listed)) ++ flat_map entry_bytes listed ≡ metadata (listing (not_empty (cut listed bytes)))
-metadata_written listed bytes before e b =
-    ap (λ l. (l ++ uleb (count_by has_length listed)) ++ flat_map entry_bytes listed) b
-    ∙ ap (λ l. uleb (count_by has_length l) ++ flat_map entry_bytes l) (sym (listing-cut listed bytes (omega arith)))
-    ∙ metadata-entries (cut listed bytes)
+    ap (λ b. cond b ((specification, suc (length bytes)) ∷ filter has_length (listing columns)) (filter has_length (listing columns))) t
+    ∙ ap (λ l. (specification, suc (length bytes)) ∷ l) (listing-kept columns)
 
 pub body-not_empty : (columns : List (ℕ × List ℕ)) → body (not_empty columns) ≡ body columns
 body-not_empty [] = refl

@@ -14,4 +14,4 @@ pub use columns::Columns;
 pub use fault::{BadColumns, ColumnFault};
 pub use laws::{empty_left_out, one_actor_list, one_cut, one_judgement, one_list};
 pub use list::ColumnList;
-pub use writer::ColumnWriter;
+pub use writer::{ColumnWriter, push_metadata};

@@ -1,7 +1,5 @@
 //! Writing columns and their metadata.
-ghost use Rattle.std.specs.Prelude.{◌≡◌, ◌<◌, ◌^◌, ◌++◌, ◌∷◌, [], Some, None, count_by, IfOk, IfSome, IfNone, OnOk, OnErr, IsErr};
-ghost use Rattle.std.specs.List.{flat_map};
-ghost use Rattle.am_leb.specs.Leb.{uleb};
+ghost use Rattle.std.specs.Prelude.{◌≡◌, ◌<◌, ◌^◌, ◌++◌, ◌∷◌, [], Some, None, length, filter, count_by, IfOk, IfSome, IfNone, OnOk, OnErr, IsErr};
 ghost use Rattle.am_colmeta.specs.Metadata.{metadata, listing, body, not_empty, Ascend, AreListed};
 ghost use Rattle.am_colmeta.specs.Writing.{IsAbove, has_length, entry_bytes};
 
@@ -28,10 +26,11 @@ fn push_entry(out: &mut Vec<u8>, column: (u64, u64)) -> Result<(), AllocError>
     Ok(())
 }
 
-// Appends the metadata of the columns that are not empty.
-fn push_metadata(out: &mut Vec<u8>, columns: &[(u64, u64)]) -> Result<(), AllocError>
-    ensures written { OnOk result (out.new.items ≡ out.old.items ++ uleb (count_by has_length columns.now) ++ flat_map entry_bytes columns.now) }
-    ensures few { OnOk result (count_by has_length columns.now < 2 ^ 64) }
+/// Appends the metadata of columns, of which these are the specifications and lengths. A column without bytes isn't listed.
+/// An error says that memory was wanted; then some of it may be there.
+pub fn push_metadata(out: &mut Vec<u8>, columns: &[(u64, u64)]) -> Result<(), AllocError>
+    ensures written { OnOk result (out.new.items ≡ out.old.items ++ metadata (filter has_length columns.now)) }
+    ensures few { OnOk result (length (filter has_length columns.now) < 2 ^ 64) }
 {
     push_u(out, count_of(columns))?;
     for column in columns {
