@@ -1,6 +1,6 @@
 -- A change that is a valid set together with others brings new ids, and keeps the limits.
 use Rattle.std.proofs.Common.{ℕ, ◌≡◌, ◌+◌, ◌<◌, ◌≤◌, ◌^◌, List, [], ◌∷◌, ◌++◌, length, get_or, Option, Some, None, refl, sym, ap, ◌∙◌, subst, All, Contains, arith}
-use Rattle.std.proofs.lemmas.List.{map-append, flat_map_more, get_or_append_left, get_or-append-add, get_or_default, length-append}
+use Rattle.std.proofs.lemmas.List.{flat_map_more, get_or_append_left, get_or-append-add, get_or_default, length-append}
 use Rattle.std.proofs.lemmas.List.Elements.{All-contains, Contains-push}
 use Rattle.am_types.specs.declared.Change.{Change}
 use Rattle.am_types.specs.Fine.{Fine}
@@ -10,8 +10,8 @@ use Rattle.am_types.specs.Deliver.{MayCome}
 use Rattle.am_laws.proofs.DistinctOperations.{distinct_ids_valid}
 use Rattle.am_types.proofs.Orders.{same_id-true}
 use Rattle.am_laws.proofs.Rules.{keeps_rules}
-use Rattle.am_fits.specs.Facts.{Fact, fact_of, facts, fact_with}
-use Rattle.am_fits.specs.Indexes.{Indexed, index_of, index_with, MayAdmit}
+use Rattle.am_fits.specs.Facts.{Fact, facts, fact_with}
+use Rattle.am_fits.specs.Indexes.{Indexed, MayAdmit}
 use Rattle.am_fits.specs.Sums.{totals_of, AreWithinLimits}
 use Rattle.am_fits.proofs.KnownBy.{fact_found}
 use Rattle.am_fits.proofs.SeqLaws.{mapped_from}
@@ -19,10 +19,6 @@ use Rattle.am_fits.proofs.Sums.{set_within, totals_push}
 
 operations_more : (cs : List Change) (c : Change) → all_operations (cs ++ c ∷ []) ≡ all_operations cs ++ operations c
 operations_more cs c = sym (flat_map_more operations [] cs c)
-
--- the index with one more change
-pub index_more : (cs : List Change) (c : Change) → index_with (index_of cs) c ≡ index_of (cs ++ c ∷ [])
-index_more cs c = sym (λ j. record { facts = (ap facts (operations_more cs c) ∙ map-append (λ (x : Operation). (x.id, fact_of x)) (all_operations cs) (operations c)) j; totals = totals_push cs c j })
 
 module _ (ix : Indexed) (c : Change) (may : MayAdmit ix c) where
   abbrev before : List Operation

@@ -1,6 +1,6 @@
 -- The operations of ancestors, as they are asked for.
 --     Past                the clock of the ancestors, and the facts of all operations
---     IsPast C t a        what is kept of the actor asked for last is what the clock C and the table t tell
+--     IsPast C t a        what is kept of an actor is what the clock C and the table t tell
 use Rattle.std.specs.Prelude.{ℕ, ◌≡◌, List}
 use Rattle.am_types.specs.declared.OpId.{OpId}
 use Rattle.am_graph.specs.declared.reach.Reach.{Reach}

@@ -22,7 +22,7 @@ pub(crate) struct Asked<'a> {
     pub actor: &'a [u8],
     /// The number of the actor, if it is an author.
     pub author: Option<usize>,
-    /// The counter below which the ancestors cover the actor's ids, and at which they cover none.
+    /// The counter below which the ancestors cover the actor's ids, and from which on they cover none.
     pub end: u64,
 }
 

@@ -2,16 +2,12 @@
 use Rattle.std.proofs.Common.{◌≡◌, ◌+◌, ◌-◌, ◌<◌, ◌≤◌, List, length, sym, ap, ◌∙◌, subst, inl, inr, Contains, arith}
 use Rattle.std.proofs.lemmas.Bool.{cases_order}
 use Rattle.am_types.specs.declared.Hash.{Hash}
-use Rattle.am_types.specs.Operations.{Operation, operations, all_operations, max}
-use Rattle.am_types.specs.Members.{Member, changes}
+use Rattle.am_types.specs.Operations.{Operation, operations, max}
+use Rattle.am_types.specs.Members.{Member}
 use Rattle.am_types.specs.Ancestors.{ancestors}
 use Rattle.am_laws.proofs.Listed.{Facts}
 use Rattle.am_laws.proofs.DistinctIds.{numbered_at, later_starts_above, earlier, ancestors_trans, ancestor_is_member}
 use Rattle.am_graph.specs.Clocks.{Covers}
-
--- the change of an operation is among these
-abbrev pub IsOperationOf : List Member → Operation → Type 0
-IsOperationOf A x = Contains (all_operations (changes A)) x
 
 -- an operation's counter lies between its change's start and end
 pub op_within : (m : Member) (x : Operation) → Contains (operations m.change) x → (x.id.actor ≡ m.change.actor) × (m.change.start ≤ x.id.counter) × (x.id.counter ≤ max m.change)

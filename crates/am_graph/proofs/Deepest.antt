@@ -30,9 +30,6 @@ pub record IsDeepest (C : List Member) (hs : List Hash) (d : ℕ) : Type 0 where
   pub upper : (m : Member) → Contains C m → among hash_cmp hs m.hash ≡ true → depth C m.change + 1 ≤ d
   pub found : (d ≡ 0) ⊎ ((m : Member) × Contains C m × (among hash_cmp hs m.hash ≡ true) × (d ≡ depth C m.change + 1))
 
-pub deepest_none : (C : List Member) → IsDeepest C [] 0
-deepest_none C = record { upper = λ m c e. absurd (both_ways _ refl e); found = inl refl }
-
 among_push : (hs : List Hash) (h g : Hash) → among hash_cmp (hs ++ h ∷ []) g ≡ true → (among hash_cmp hs g ≡ true) ⊎ (g ≡ h)
 among_push hs h g e = elim (or_cases (among hash_cmp hs g) (among hash_cmp (h ∷ []) g) (sym (list_any-append (same hash_cmp g) hs (h ∷ [])) ∙ e)) [
   | inl a ↦ inl a

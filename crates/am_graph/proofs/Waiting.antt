@@ -56,11 +56,6 @@ place_push [] hs h k = refl
 place_push (x ∷ g) hs h zero = list_any-append (same hash_cmp x.0) hs (h ∷ [])
 place_push (x ∷ g) hs h (suc k) = place_push g hs h k
 
-pub place_none : (g : List (Hash × Node)) (k : ℕ) → is_place_of g [] k ≡ false
-place_none [] k = refl
-place_none (x ∷ g) zero = refl
-place_none (x ∷ g) (suc k) = place_none g k
-
 or_off : (a : Bool) → (a || false) ≡ a
 or_off true = refl
 or_off false = refl

@@ -15,11 +15,11 @@ use std::alloc::{AllocError, Global};
 use std::cmp::Ordering;
 use std::collections::BTreeMap;
 
-/// A table is kept where a walk would visit this many changes else, and one more for so many authors, since a table has a
-/// line for each of them.
-const FEWEST: u64 = 4;
+/// A table is kept where a walk would visit so many changes otherwise, and more where there are many authors.
+const FEWEST_CHANGES: u64 = 5;
 
-const AUTHORS: u64 = 128;
+/// For so many authors, since a table has a line for each of them, a walk may visit one change more.
+const AUTHORS_A_CHANGE: u64 = 128;
 
 /// What is kept beside a change.
 #[derive(Clone, Drop)]
@@ -28,7 +28,7 @@ pub(crate) struct Mark {
     pub author: usize,
     /// The length of the longest chain of dependencies below it.
     pub depth: u64,
-    /// A bound of how many changes a walk from here visits before it meets kept tables alone.
+    /// A bound of how many changes a walk from here visits, those with a table among them. It is 1 where a table is kept.
     pub away: u64,
     /// How far each author's changes go among it and its ancestors.
     pub kept: Option<Vec<Reach>>,
@@ -110,14 +110,14 @@ impl Parts {
         Ok(Mark {
             author,
             depth,
-            away: 0,
+            away: 1,
             kept: Some(table),
         })
     }
 
-    /// How many changes a walk may visit. No contract speaks of it.
+    /// From so many changes of a walk on a table is kept. No contract speaks of it.
     fn step(&self) -> u64 {
-        FEWEST + self.authors.len() as u64 / AUTHORS
+        FEWEST_CHANGES + self.authors.len() as u64 / AUTHORS_A_CHANGE
     }
 
     /// The depth of a change with these dependencies.
@@ -135,7 +135,7 @@ impl Parts {
         depth
     }
 
-    /// How many changes a walk from one with these dependencies may visit before it meets kept tables alone.
+    /// How many changes a walk from one with these dependencies may visit, if no table is kept beside that one.
     fn away_above(&self, deps: &[Hash]) -> u64
         requires { IsWhole self.now }
     {
