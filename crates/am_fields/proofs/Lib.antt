@@ -22,3 +22,4 @@ pub mod Spelled
 pub mod ListPlaces
 pub mod Stretches
 pub mod Ahead
+pub mod Alike
