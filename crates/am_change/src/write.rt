@@ -11,6 +11,9 @@ use am_types::{ActorId, Bytes, Change, Hash};
 use sha2::{Digest, Sha256};
 use std::alloc::{AllocError, Global};
 
+// Room for what most changes have beside their columns. No contract speaks of room.
+const BESIDE: usize = 192;
+
 // Appends bytes behind their length.
 fn push_prefixed(out: &mut Vec<u8>, bytes: &[u8]) -> Result<(), AllocError>
     ensures { OnOk result (out.new.items ≡ out.old.items ++ prefixed bytes.now) }
@@ -60,7 +63,7 @@ fn contents_in(alloc: Global, change: &Change) -> Result<Vec<u8>, AllocError>
     ensures { IfOk result (λ bytes. bytes.items ≡ contents change.now) }
 {
     let text = write_ops(alloc, change.ops.as_slice(), &change.actor)?;
-    let mut out = Vec::new(alloc);
+    let mut out = Vec::with_capacity(alloc, text.body.len().saturating_add(BESIDE))?;
     push_head(&mut out, change)?;
     push_actors(&mut out, text.others.as_slice())?;
     out.extend_from_slice(text.metadata.as_slice())?;

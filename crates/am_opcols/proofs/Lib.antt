@@ -2,6 +2,7 @@ pub mod OpLaws
 pub mod OneReading
 pub mod WriteLaws
 pub mod CountingLaws
+pub mod InPlace
 pub mod OtherLaws
 pub mod CanonicalLaws
 pub mod Named

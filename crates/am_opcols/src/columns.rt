@@ -16,24 +16,22 @@ use am_runs::{UnsignedItem, push_list};
 use am_types::{Bytes, Key, Op, OpId};
 use std::alloc::{AllocError, Global};
 
-/// The column of such numbers, which stand in the room until they are written.
-pub fn numbers_in<C: Cell>(
-    alloc: Global,
+/// Appends the column of such numbers, which stand in the room until they are written.
+pub fn push_numbers<C: Cell>(
+    out: &mut Vec<u8>,
     room: &mut Vec<Option<u64>>,
     actors: &ListedActors<'_>,
     ops: &[Op],
-) -> Result<Bytes, AllocError>
+) -> Result<(), AllocError>
     requires fine { All FineOp ops.now }
     requires few { length ops.now ≤ 2 ^ 22 }
-    ensures { IfOk result (λ bytes. bytes ≡ numbers_bytes (map (C.cell actors.now) ops.now)) }
+    ensures { OnOk result (out.new.items ≡ out.old.items ++ numbers_bytes (map (C.cell actors.now) ops.now)) }
 {
     room.clear();
     for op in ops {
         room.push(C::of(actors, op))?;
     }
-    let mut bytes = Vec::new(alloc);
-    push_list::<u64, UnsignedItem>(&mut bytes, room.as_slice())?;
-    Ok(Bytes::from(bytes))
+    push_list::<u64, UnsignedItem>(out, room.as_slice())
 }
 
 // The counter of a key.
@@ -49,19 +47,21 @@ fn key_counter(key: &Key) -> Option<i64>
     }
 }
 
-/// The column of the counters of keys, which stand in the room until they are written.
-pub fn key_counters_in(alloc: Global, room: &mut DeltaList, ops: &[Op]) -> Result<Bytes, AllocError>
+/// Appends the column of the counters of keys, which stand in the room until they are written.
+pub fn push_key_counters(
+    out: &mut Vec<u8>,
+    room: &mut DeltaList,
+    ops: &[Op],
+) -> Result<(), AllocError>
     requires fine { All FineOp ops.now }
     requires few { length ops.now ≤ 2 ^ 22 }
-    ensures { IfOk result (λ bytes. bytes ≡ canonical_delta_bytes (map (λ o. counter_of_key o.key) ops.now)) }
+    ensures { OnOk result (out.new.items ≡ out.old.items ++ canonical_delta_bytes (map (λ o. counter_of_key o.key) ops.now)) }
 {
     room.clear();
     for op in ops {
         room.push(key_counter(&op.key))?;
     }
-    let mut bytes = Vec::new(alloc);
-    room.push_to(&mut bytes)?;
-    Ok(Bytes::from(bytes))
+    room.push_to(out)
 }
 
 // The name of a key.
@@ -129,15 +129,14 @@ pub fn expands_in(alloc: Global, ops: &[Op]) -> Result<Bytes, AllocError>
     writer.finish_maybe()
 }
 
-/// The bytes of the values.
-pub fn raw_in(alloc: Global, ops: &[Op]) -> Result<Bytes, AllocError>
-    ensures { IfOk result (λ bytes. bytes ≡ joined (map (λ o. o.value) ops.now)) }
+/// Appends the bytes of the values.
+pub fn push_raw(out: &mut Vec<u8>, ops: &[Op]) -> Result<(), AllocError>
+    ensures { OnOk result (out.new.items ≡ out.old.items ++ joined (map (λ o. o.value) ops.now)) }
 {
-    let mut raw = Vec::new(alloc);
     for op in ops {
-        raw.extend_from_slice(op.value.raw.as_slice())?;
+        out.extend_from_slice(op.value.raw.as_slice())?;
     }
-    Ok(Bytes::from(raw))
+    Ok(())
 }
 
 // Puts the places of the actors of ids behind others.
@@ -165,40 +164,36 @@ fn push_counters(room: &mut DeltaList, ids: &[OpId]) -> Result<(), AllocError>
     Ok(())
 }
 
-/// The column of the actors of predecessors, whose places stand in the room until they are written.
-pub fn pred_actors_in(
-    alloc: Global,
+/// Appends the column of the actors of predecessors, whose places stand in the room until they are written.
+pub fn push_pred_actors(
+    out: &mut Vec<u8>,
     room: &mut Vec<Option<u64>>,
     actors: &ListedActors<'_>,
     ops: &[Op],
-) -> Result<Bytes, AllocError>
+) -> Result<(), AllocError>
     requires few { pred_count ops.now ≤ 2 ^ 22 }
-    ensures { IfOk result (λ bytes. bytes ≡ numbers_bytes (map (option_map (place_of actors.now)) (map id_actor (flat (map (λ o. o.preds) ops.now))))) }
+    ensures { OnOk result (out.new.items ≡ out.old.items ++ numbers_bytes (map (option_map (place_of actors.now)) (map id_actor (flat (map (λ o. o.preds) ops.now))))) }
 {
     room.clear();
     for op in ops {
         push_places(room, actors, op.preds.as_slice())?;
     }
-    let mut bytes = Vec::new(alloc);
-    push_list::<u64, UnsignedItem>(&mut bytes, room.as_slice())?;
-    Ok(Bytes::from(bytes))
+    push_list::<u64, UnsignedItem>(out, room.as_slice())
 }
 
-/// The column of the counters of predecessors, which stand in the room until they are written.
-pub fn pred_counters_in(
-    alloc: Global,
+/// Appends the column of the counters of predecessors, which stand in the room until they are written.
+pub fn push_pred_counters(
+    out: &mut Vec<u8>,
     room: &mut DeltaList,
     ops: &[Op],
-) -> Result<Bytes, AllocError>
+) -> Result<(), AllocError>
     requires fine { All FineOp ops.now }
     requires few { pred_count ops.now ≤ 2 ^ 22 }
-    ensures { IfOk result (λ bytes. bytes ≡ canonical_delta_bytes (map id_counter (flat (map (λ o. o.preds) ops.now)))) }
+    ensures { OnOk result (out.new.items ≡ out.old.items ++ canonical_delta_bytes (map id_counter (flat (map (λ o. o.preds) ops.now)))) }
 {
     room.clear();
     for op in ops {
         push_counters(room, op.preds.as_slice())?;
     }
-    let mut bytes = Vec::new(alloc);
-    room.push_to(&mut bytes)?;
-    Ok(Bytes::from(bytes))
+    room.push_to(out)
 }

@@ -1,5 +1,5 @@
 //! Writing the operations of a change to their canonical columns.
-ghost use Rattle.std.specs.Prelude.{◌≡◌, ◌≤◌, ◌^◌, All, length, IfOk};
+ghost use Rattle.std.specs.Prelude.{◌≡◌, ◌+◌, ◌≤◌, ◌^◌, ◌++◌, ◌∷◌, [], ℕ, All, length, IfOk, OnOk};
 ghost use Rattle.am_types.specs.Fine.{FineOp, pred_count};
 ghost use Rattle.am_colmeta.specs.Metadata.{metadata, listing, body, not_empty};
 ghost use Rattle.am_fields.specs.Columns.{spellings};
@@ -9,12 +9,13 @@ ghost use Rattle.am_opcols.specs.Writing.{written_columns};
 
 use crate::cells::{Action, KeyPlace, Metadata, ObjectCounter, ObjectPlace, PredCount};
 use crate::columns::{
-    expands_in, inserts_in, key_counters_in, key_names_in, marks_in, numbers_in, pred_actors_in,
-    pred_counters_in, raw_in,
+    expands_in, inserts_in, key_names_in, marks_in, push_key_counters, push_numbers,
+    push_pred_actors, push_pred_counters, push_raw,
 };
 use crate::others::others_of;
+use am_colmeta::push_metadata;
 use am_delta::DeltaList;
-use am_fields::{ListedActors, columns_of, specifications};
+use am_fields::{ListedActors, specifications};
 use am_types::{ActorId, Bytes, List, Op, Twin};
 use std::alloc::{AllocError, Global};
 
@@ -29,52 +30,91 @@ pub struct OpsText {
     pub body: Bytes,
 }
 
-// The columns of the operations, one after another. The room is for what stands in one of them.
-fn columns_in(
+// Appends a column that was finished.
+fn push_column(out: &mut Vec<u8>, column: Bytes) -> Result<(), AllocError>
+    ensures { OnOk result (out.new.items ≡ out.old.items ++ column) }
+{
+    out.extend_from_slice(column.as_slice())
+}
+
+// Lists the column that begins at this place of what is written and is the last.
+fn push_listed(
+    listed: &mut Vec<(u64, u64)>,
+    specification: u64,
+    begin: usize,
+    out: &[u8],
+) -> Result<(), AllocError>
+    requires { begin ≤ length out.now }
+    ensures { OnOk result ((n : ℕ) → begin + n ≡ length out.now → listed.new.items ≡ listed.old.items ++ (specification, n) ∷ []) }
+{
+    listed.push((specification, (out.len() - begin) as u64))?;
+    Ok(())
+}
+
+// Writes the columns of the operations, one behind another, and lists them. The room is for what stands in one of
+// them.
+fn push_columns(
     alloc: Global,
+    out: &mut Vec<u8>,
+    listed: &mut Vec<(u64, u64)>,
     numbers: &mut Vec<Option<u64>>,
     counters: &mut DeltaList,
     actors: &ListedActors<'_>,
     ops: &[Op],
-) -> Result<Vec<(u64, Bytes)>, AllocError>
+) -> Result<(), AllocError>
     requires fine { All FineOp ops.now }
     requires few { length ops.now ≤ 2 ^ 22 }
     requires few_preds { pred_count ops.now ≤ 2 ^ 22 }
-    ensures { IfOk result (λ columns. columns.items ≡ spellings actors.now (op_columns ops.now)) }
+    requires empty { out.old.items ≡ [] }
+    requires none { listed.old.items ≡ [] }
+    ensures { OnOk result ((out.new.items ≡ body (spellings actors.now (op_columns ops.now))) × (listed.new.items ≡ listing (spellings actors.now (op_columns ops.now)))) }
 {
-    let object_actor = numbers_in::<ObjectPlace>(alloc, numbers, actors, ops)?;
-    let object_counter = numbers_in::<ObjectCounter>(alloc, numbers, actors, ops)?;
-    let key_actor = numbers_in::<KeyPlace>(alloc, numbers, actors, ops)?;
-    let key_counter = key_counters_in(alloc, counters, ops)?;
-    let key_name = key_names_in(alloc, ops)?;
-    let insert = inserts_in(alloc, ops)?;
-    let action = numbers_in::<Action>(alloc, numbers, actors, ops)?;
-    let metadata = numbers_in::<Metadata>(alloc, numbers, actors, ops)?;
-    let raw = raw_in(alloc, ops)?;
-    let lengths = numbers_in::<PredCount>(alloc, numbers, actors, ops)?;
-    let pred_actor = pred_actors_in(alloc, numbers, actors, ops)?;
-    let pred_counter = pred_counters_in(alloc, counters, ops)?;
-    let expand = expands_in(alloc, ops)?;
-    let mark = marks_in(alloc, ops)?;
-    let mut columns = Vec::with_capacity(alloc, 14)?;
-    columns.push((specifications::OBJECT_ACTOR, object_actor))?;
-    columns.push((specifications::OBJECT_COUNTER, object_counter))?;
-    columns.push((specifications::KEY_ACTOR, key_actor))?;
-    columns.push((specifications::KEY_COUNTER, key_counter))?;
-    columns.push((specifications::KEY_NAME, key_name))?;
-    columns.push((specifications::INSERT, insert))?;
-    columns.push((specifications::ACTION, action))?;
-    columns.push((specifications::VALUE_METADATA, metadata))?;
-    columns.push((specifications::VALUE_RAW, raw))?;
-    columns.push((specifications::PRED_COUNT, lengths))?;
-    columns.push((specifications::PRED_ACTOR, pred_actor))?;
-    columns.push((specifications::PRED_COUNTER, pred_counter))?;
-    columns.push((specifications::EXPAND, expand))?;
-    columns.push((specifications::MARK, mark))?;
-    Ok(columns)
+    let at = out.len();
+    push_numbers::<ObjectPlace>(out, numbers, actors, ops)?;
+    push_listed(listed, specifications::OBJECT_ACTOR, at, out)?;
+    let at = out.len();
+    push_numbers::<ObjectCounter>(out, numbers, actors, ops)?;
+    push_listed(listed, specifications::OBJECT_COUNTER, at, out)?;
+    let at = out.len();
+    push_numbers::<KeyPlace>(out, numbers, actors, ops)?;
+    push_listed(listed, specifications::KEY_ACTOR, at, out)?;
+    let at = out.len();
+    push_key_counters(out, counters, ops)?;
+    push_listed(listed, specifications::KEY_COUNTER, at, out)?;
+    let at = out.len();
+    push_column(out, key_names_in(alloc, ops)?)?;
+    push_listed(listed, specifications::KEY_NAME, at, out)?;
+    let at = out.len();
+    push_column(out, inserts_in(alloc, ops)?)?;
+    push_listed(listed, specifications::INSERT, at, out)?;
+    let at = out.len();
+    push_numbers::<Action>(out, numbers, actors, ops)?;
+    push_listed(listed, specifications::ACTION, at, out)?;
+    let at = out.len();
+    push_numbers::<Metadata>(out, numbers, actors, ops)?;
+    push_listed(listed, specifications::VALUE_METADATA, at, out)?;
+    let at = out.len();
+    push_raw(out, ops)?;
+    push_listed(listed, specifications::VALUE_RAW, at, out)?;
+    let at = out.len();
+    push_numbers::<PredCount>(out, numbers, actors, ops)?;
+    push_listed(listed, specifications::PRED_COUNT, at, out)?;
+    let at = out.len();
+    push_pred_actors(out, numbers, actors, ops)?;
+    push_listed(listed, specifications::PRED_ACTOR, at, out)?;
+    let at = out.len();
+    push_pred_counters(out, counters, ops)?;
+    push_listed(listed, specifications::PRED_COUNTER, at, out)?;
+    let at = out.len();
+    push_column(out, expands_in(alloc, ops)?)?;
+    push_listed(listed, specifications::EXPAND, at, out)?;
+    let at = out.len();
+    push_column(out, marks_in(alloc, ops)?)?;
+    push_listed(listed, specifications::MARK, at, out)?;
+    Ok(())
 }
 
-// The metadata and the body of the operations.
+// The metadata and the body of the operations. Body and metadata begin with room for most changes.
 fn text_of(
     alloc: Global,
     actors: &ListedActors<'_>,
@@ -88,8 +128,20 @@ fn text_of(
 {
     let mut numbers = Vec::with_capacity(alloc, ops.len())?;
     let mut counters = DeltaList::new(alloc);
-    let columns = columns_in(alloc, &mut numbers, &mut counters, actors, ops)?;
-    columns_of(alloc, &columns)
+    let mut listed = Vec::with_capacity(alloc, 14)?;
+    let mut body = Vec::with_capacity(alloc, 128)?;
+    push_columns(
+        alloc,
+        &mut body,
+        &mut listed,
+        &mut numbers,
+        &mut counters,
+        actors,
+        ops,
+    )?;
+    let mut metadata = Vec::with_capacity(alloc, 32)?;
+    push_metadata(&mut metadata, listed.as_slice())?;
+    Ok((Bytes::from(metadata), Bytes::from(body)))
 }
 
 /// The columns of the operations of a fine change by this author, in their canonical spelling.

@@ -12,7 +12,7 @@ unfolding contents
 returns c =
     let actor = c.args.change.now.actor in
     let ops = c.as_slice.ensures in
-    five c.new-out.result.items _ _ _ _ _ _ _ _ _ _ _ _ _ _ c.new-out.ensures.items c.in_ok-push_head.ensures c.in_ok-push_actors.ensures c.in_ok-extend_from_slice.ensures.items c.in_ok-extend_from_slice-2.ensures.items c.in_ok-extend_from_slice-3.ensures.items
+    five c.in_ok-out.out.items _ _ _ _ _ _ _ _ _ _ _ _ _ _ c.in_ok-out.ensures.items c.in_ok-push_head.ensures c.in_ok-push_actors.ensures c.in_ok-extend_from_slice.ensures.items c.in_ok-extend_from_slice-2.ensures.items c.in_ok-extend_from_slice-3.ensures.items
     (ap actors_bytes (c.as_slice-2.ensures ∙ c.in_ok-text.ensures.others ∙ ap (λ o. others actor o) ops))
     (c.as_slice-3.ensures ∙ c.in_ok-text.ensures.metadata ∙ ap (λ o. metadata (listing (written_columns actor o))) ops)
     (c.as_slice-4.ensures ∙ c.in_ok-text.ensures.body ∙ ap (λ o. body (written_columns actor o)) ops)

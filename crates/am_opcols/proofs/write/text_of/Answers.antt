@@ -1,20 +1,22 @@
-use Rattle.std.proofs.Common.{◌≡◌, ℕ, List, sym, ◌∙◌, subst}
-use Rattle.std.specs.Prelude.{IfOk}
-use Rattle.am_colmeta.specs.Metadata.{metadata, listing, body, not_empty, Ascend}
-use Rattle.am_opcols.proofs.WrittenOps.{ascending}
+use Rattle.std.proofs.Common.{◌++◌, sym, ap, ◌∙◌}
+use Rattle.std.specs.Prelude.{filter}
+use Rattle.am_colmeta.specs.Metadata.{metadata}
+use Rattle.am_colmeta.specs.Writing.{has_length}
+use Rattle.am_colmeta.proofs.Entries.{listing-kept, body-not_empty}
+use Rattle.am_fields.specs.Columns.{spellings}
+use Rattle.am_opcols.specs.Columns.{op_columns}
 use Rattle.am_opcols.proofs.write.text_of.Goals as goal
-
-pub columns_of-requires : goal.columns_of-requires
-columns_of-requires c =
-    let P : List (ℕ × List ℕ) → Type 0 = λ columns. Ascend (listing columns) in
-    subst P (sym (c.deref.ensures.value ∙ c.in_ok-columns.ensures)) (ascending c.args.actors.now c.args.ops.now)
 
 pub returns-clause-metadata : goal.returns-clause-metadata
 returns-clause-metadata c =
-    let P : List (ℕ × List ℕ) → Type 0 = λ columns. IfOk c.columns_of.result (λ text. text.0 ≡ metadata (listing (not_empty columns))) in
-    subst P (c.deref.ensures.value ∙ c.in_ok-columns.ensures) c.columns_of.ensures.metadata
+    let columns = spellings c.args.actors.now (op_columns c.args.ops.now) in
+    let listed = c.as_slice.ensures.value ∙ c.in_ok-push_columns.ensures.1 in
+    c.from.ensures
+    ∙ c.in_ok-push_metadata.ensures.written
+    ∙ (λ j. c.in_ok-metadata.ensures.items j ++ metadata (filter has_length (listed j)))
+    ∙ ap metadata (listing-kept columns)
 
 pub returns-clause-body : goal.returns-clause-body
 returns-clause-body c =
-    let P : List (ℕ × List ℕ) → Type 0 = λ columns. IfOk c.columns_of.result (λ text. text.1 ≡ body (not_empty columns)) in
-    subst P (c.deref.ensures.value ∙ c.in_ok-columns.ensures) c.columns_of.ensures.body
+    let columns = spellings c.args.actors.now (op_columns c.args.ops.now) in
+    c.from-2.ensures ∙ c.in_ok-push_columns.ensures.0 ∙ sym (body-not_empty columns)

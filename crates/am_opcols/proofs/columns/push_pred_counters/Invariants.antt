@@ -1,6 +1,6 @@
 use Rattle.std.proofs.Common.{◌≡◌, map, take}
 use Rattle.am_fields.specs.Layout.{id_counter, flat}
-use Rattle.am_opcols.proofs.columns.pred_counters_in.Given as goal
+use Rattle.am_opcols.proofs.columns.push_pred_counters.Given as goal
 
 abbrev pub invariant-loop-op : goal.invariant-loop-op
 invariant-loop-op l = l.room ≡ map id_counter (flat (map (λ o. o.preds) (take l.op-index l.ops)))

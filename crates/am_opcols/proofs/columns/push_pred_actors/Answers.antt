@@ -5,7 +5,7 @@ use Rattle.am_fields.specs.Columns.{place_of}
 use Rattle.am_fields.specs.Layout.{id_actor, flat}
 use Rattle.am_opcols.proofs.WriteLaws.{all_taken}
 use Rattle.am_opcols.proofs.CanonicalLaws.{length-preds}
-use Rattle.am_opcols.proofs.columns.pred_actors_in.Goals as goal
+use Rattle.am_opcols.proofs.columns.push_pred_actors.Goals as goal
 
 pub push_list-requires : goal.push_list-requires
 push_list-requires c =

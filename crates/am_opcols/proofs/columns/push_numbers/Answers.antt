@@ -1,7 +1,7 @@
-use Rattle.std.proofs.Common.{◌+◌, ◌∷◌, ◌++◌, [], length, map, take, arith, sym, ap, ◌∙◌}
+use Rattle.std.proofs.Common.{◌∷◌, ◌++◌, [], length, map, take, arith, sym, ap, ◌∙◌}
 use Rattle.std.proofs.lemmas.List.{length-map, length-take-le}
 use Rattle.am_opcols.proofs.WriteLaws.{fine_at, field_next}
-use Rattle.am_opcols.proofs.columns.numbers_in.Goals as goal
+use Rattle.am_opcols.proofs.columns.push_numbers.Goals as goal
 
 pub of-requires : goal.of-requires
 of-requires g c = fine_at c.args.ops.now c.loop-op.op-index c.op-item.result c.loop-op-test.true c.op-item.is c.requires.fine

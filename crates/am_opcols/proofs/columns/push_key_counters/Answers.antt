@@ -1,8 +1,8 @@
-use Rattle.std.proofs.Common.{◌+◌, ◌∷◌, ◌++◌, [], length, map, take, arith, sym, ap, ◌∙◌}
+use Rattle.std.proofs.Common.{◌∷◌, ◌++◌, [], length, map, take, arith, sym, ap, ◌∙◌}
 use Rattle.std.proofs.lemmas.List.{length-map, length-take-le}
 use Rattle.am_fields.specs.Layout.{key_counter}
 use Rattle.am_opcols.proofs.WriteLaws.{fine_at, field_next}
-use Rattle.am_opcols.proofs.columns.key_counters_in.Goals as goal
+use Rattle.am_opcols.proofs.columns.push_key_counters.Goals as goal
 
 pub key_counter-requires : goal.key_counter-requires
 key_counter-requires c = (fine_at c.args.ops.now c.loop-op.op-index c.op-item.result c.loop-op-test.true c.op-item.is c.requires.fine).key

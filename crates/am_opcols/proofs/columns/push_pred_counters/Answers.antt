@@ -7,7 +7,7 @@ use Rattle.am_types.specs.Fine.{IsId}
 use Rattle.am_fields.specs.Layout.{id_counter, flat}
 use Rattle.am_opcols.proofs.WriteLaws.{fine_at, all_taken}
 use Rattle.am_opcols.proofs.CanonicalLaws.{length-preds}
-use Rattle.am_opcols.proofs.columns.pred_counters_in.Goals as goal
+use Rattle.am_opcols.proofs.columns.push_pred_counters.Goals as goal
 
 pub push_counters-requires : goal.push_counters-requires
 push_counters-requires c =
