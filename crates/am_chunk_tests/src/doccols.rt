@@ -1,7 +1,7 @@
 //! Outside values: the columns of a document that holds one set key, and of one that holds that key and its deletion;
 //! and columns as other producers write them.
 use am_colmeta::{ActorList, ColumnList, Columns};
-use am_doccols::{MetaCursor, RowCursor, SuccCursor};
+use am_doccols::{MetaCursor, RowCursor, RowRef, SuccCursor};
 use am_types::{KeyRef, ObjRef};
 
 const ROW_SPECS: [u64; 16] = [
@@ -80,6 +80,26 @@ fn reads_a_set_key_that_was_deleted(rt: HostRuntime) {
     assert!(rt; row.mark.is_none() && rows.next().is_some() && rows.next().is_none());
     assert!(rt; rows_of(&ROWS_METADATA, &ROWS_BODY[..18]).is_none());
     assert!(rt; SuccCursor::none().next().is_none());
+}
+
+// The row that was there is kept behind the last, but for its successors, which were read.
+#[test]
+fn reads_a_row_into_one_that_is_there(rt: HostRuntime) {
+    let Some(mut rows) = rows_of(&ROWS_METADATA, &ROWS_BODY) else {
+        assert!(rt; false, "one row");
+        return;
+    };
+    let mut row = RowRef::blank();
+    assert!(rt; row.id.counter == 0 && row.succs.again().next().is_none());
+    assert!(rt; rows.next_into(&mut row));
+    assert!(rt; matches!(row.obj, ObjRef::Root) && matches!(row.key, KeyRef::Name("a")));
+    assert!(rt; row.id.counter == 1 && row.id.actor == &[0xaa][..] && row.action == 1);
+    let Some(succ) = row.succs.next() else {
+        assert!(rt; false, "a successor");
+        return;
+    };
+    assert!(rt; succ.counter == 2 && row.succs.next().is_none());
+    assert!(rt; !rows.next_into(&mut row) && row.id.counter == 1);
 }
 
 #[test]

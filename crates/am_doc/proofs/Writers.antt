@@ -1,6 +1,7 @@
 -- Writers that go over rows.
 use Rattle.std.proofs.Common.{◌≡◌, ℕ, ◌<◌, List, length, get_or, Option, Some, sym, ap, ◌∙◌, subst}
-use Rattle.std.specs.Prelude.{IfSome, IfOk, Result, Ok, Err}
+use Rattle.std.specs.Prelude.{IfSome, IfOk, OnOk, Result, Ok, Err}
+use Rattle.std.specs.Result.{result_and}
 use Rattle.std.specs.List.{AllByRecursion}
 use Rattle.am_types.specs.declared.OpId.{OpId}
 use Rattle.am_types.specs.declared.Row.{Row}
@@ -27,6 +28,12 @@ pub text_is : {A R E : Type 0} (part : R → List ℕ) (text : List (List ℕ) �
     → known ≡ actors → held ≡ Some items → IfOk result (λ t. IfSome held (λ xs. part t ≡ text known xs)) → IfOk result (λ t. part t ≡ text actors items)
 text_is part text known actors held items (Err e) names is ok = tt
 text_is part text known actors held items (Ok t) names is ok = got held items (λ xs. part t ≡ text known xs) is ok ∙ ap (λ a. text a items) names
+
+-- what a writer finished, where all items were written before
+pub text_after : {A R S E : Type 0} (part : R → List ℕ) (text : List (List ℕ) → List A → List ℕ) (known names actors : List (List ℕ)) (held : Option (List A)) (items : List A) (written : Result S E) (finished both : Result R E)
+    → both ≡ result_and written finished → OnOk written (known ≡ names) → names ≡ actors → OnOk written (held ≡ Some items) → IfOk finished (λ t. IfSome held (λ xs. part t ≡ text known xs)) → IfOk both (λ t. part t ≡ text actors items)
+text_after part text known names actors held items (Ok x) finished both e same named is ok = subst (λ r. IfOk r (λ t. part t ≡ text actors items)) (sym e) (text_is part text known actors held items finished (same ∙ named) is ok)
+text_after part text known names actors held items (Err x) finished both e same named is ok = subst (λ r. IfOk r (λ t. part t ≡ text actors items)) (sym e) tt
 
 pub both_same : {X : Type 0} (f : List (List ℕ) → List X → List (ℕ × List ℕ)) {a b : List (List ℕ)} {xs ys : List X} → a ≡ b → xs ≡ ys → f a xs ≡ f b ys
 both_same f {b = b} {xs = xs} e d = ap (λ z. f z xs) e ∙ ap (f b) d

@@ -75,6 +75,22 @@ fn push_row<'a>(
     writer.push_lent(fields_in(&row.operation), ids.as_slice())
 }
 
+// Appends lent rows.
+fn push_rows(alloc: Global, writer: &mut RowWriter, rows: &LentRows<'_>) -> Result<(), AllocError>
+    requires empty { writer.old.1 ≡ Some [] }
+    requires all { AllByRecursion (IsRowFor writer.old.0) rows.now }
+    requires few { length rows.now ≤ 2 ^ 22 }
+    requires few_succs { succ_count rows.now ≤ 2 ^ 22 }
+    ensures actors { OnOk result (writer.new.0 ≡ writer.old.0) }
+    ensures rows { OnOk result (writer.new.1 ≡ Some rows.now) }
+{
+    let mut succs = Vec::new(alloc);
+    for i in 0..rows.len() {
+        push_row(writer, &mut succs, rows.get(i))?;
+    }
+    Ok(())
+}
+
 // The metadata and the body of the columns of lent rows.
 fn lent_text(
     alloc: Global,
@@ -88,11 +104,9 @@ fn lent_text(
     ensures body { IfOk result (λ text. text.1 ≡ columns_body (written_rows actors.now rows.now)) }
 {
     let mut writer = RowWriter::new(alloc, actors)?;
-    let mut succs = Vec::new(alloc);
-    for i in 0..rows.len() {
-        push_row(&mut writer, &mut succs, rows.get(i))?;
-    }
-    writer.finish()
+    // (no way out lets go of the writer, whose proof would take long)
+    let all = push_rows(alloc, &mut writer, rows);
+    all.and(writer.finish())
 }
 
 /// The canonical contents of a document that says what the table says.

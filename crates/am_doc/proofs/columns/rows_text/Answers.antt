@@ -1,30 +1,23 @@
-use Rattle.std.proofs.Common.{sym, ap, ◌∙◌, subst, take, arith}
+use Rattle.std.proofs.Common.{ℕ, List, sym, subst}
+use Rattle.std.specs.List.{AllByRecursion}
 use Rattle.am_colmeta.specs.Metadata.{metadata, listing, body}
 use Rattle.am_doccols.specs.Columns.{written_rows}
-use Rattle.am_doccols.specs.Conditions.{HasRoom}
-use Rattle.am_doccols.specs.Lent.{row_with}
-use Rattle.am_fields.proofs.WriteLaws.{held}
-use Rattle.am_doc.proofs.Rooms.{row_room, at_end}
-use Rattle.am_doc.proofs.Writers.{row_ready, text_is}
-use Rattle.am_doc.proofs.Turns.{taken_more}
+use Rattle.am_doccols.specs.Conditions.{IsRowFor}
+use Rattle.am_doc.proofs.Writers.{text_after}
 use Rattle.am_doc.proofs.columns.rows_text.Goals as goal
 
-pub push-requires-clause-row : goal.push-requires-clause-row
-push-requires-clause-row c = row_ready c.loop-row.writer.0 c.args.actors.now c.args.rows.now c.loop-row.row-index c.row-item.result c.fields_of.result c.as_slice.result.now c.loop-row-test.true c.row-item.is c.requires.all c.loop-row.invariant.0 c.as_slice.ensures c.fields_of.ensures
-
-pub push-requires-clause-room : goal.push-requires-clause-room
-push-requires-clause-room c = held c.loop-row.writer.1 (take c.loop-row.row-index c.args.rows.now) (λ rows. HasRoom rows c.as_slice.result.now) c.loop-row.invariant.1
-    (subst (λ s. HasRoom (take c.loop-row.row-index c.args.rows.now) s) (sym c.as_slice.ensures) (row_room c.args.rows.now c.loop-row.row-index c.row-item.result c.loop-row-test.true c.row-item.is c.requires.few c.requires.few_succs))
+pub push_rows-all-requires : goal.push_rows-all-requires
+push_rows-all-requires c = record {
+  empty = c.in_ok-writer.ensures.rows;
+  all = subst (λ (a : List (List ℕ)). AllByRecursion (IsRowFor a) c.args.rows.now) (sym c.in_ok-writer.ensures.actors) c.requires.all;
+  few = c.requires.few;
+  few_succs = c.requires.few_succs;
+}
 
 pub returns-clause-metadata : goal.returns-clause-metadata
-returns-clause-metadata c = text_is (λ t. t.0) (λ a rows. metadata (listing (written_rows a rows))) c.loop-row.writer.0 c.args.actors.now c.loop-row.writer.1 c.args.rows.now c.finish.result c.loop-row.invariant.0 (at_end c.loop-row.row-index c.args.rows.now c.loop-row.writer.1 (omega (arith, c.loop-row-test.false)) c.loop-row.invariant.1) c.finish.ensures.metadata
+returns-clause-metadata c = text_after (λ t. t.0) (λ a rows. metadata (listing (written_rows a rows))) c.push_rows-all.new.writer.0 c.in_ok-writer.writer.0 c.args.actors.now c.push_rows-all.new.writer.1 c.args.rows.now c.push_rows-all.result c.finish.result c.and.result
+    c.and.ensures c.push_rows-all.ensures.actors c.in_ok-writer.ensures.actors c.push_rows-all.ensures.rows c.finish.ensures.metadata
 
 pub returns-clause-body : goal.returns-clause-body
-returns-clause-body c = text_is (λ t. t.1) (λ a rows. body (written_rows a rows)) c.loop-row.writer.0 c.args.actors.now c.loop-row.writer.1 c.args.rows.now c.finish.result c.loop-row.invariant.0 (at_end c.loop-row.row-index c.args.rows.now c.loop-row.writer.1 (omega (arith, c.loop-row-test.false)) c.loop-row.invariant.1) c.finish.ensures.body
-
-pub loop-row-preserved : goal.loop-row-preserved
-loop-row-preserved c = (
-  c.in_ok-push.ensures.actors ∙ c.loop-row.invariant.0,
-  taken_more c.args.rows.now c.loop-row.row-index c.row-item.result (row_with c.fields_of.result c.as_slice.result.now) c.loop-row.writer.1 c.push.new.self.1 c.loop-row-test.true c.row-item.is
-      (ap (row_with c.fields_of.result) c.as_slice.ensures ∙ c.fields_of.ensures) c.loop-row.invariant.1 c.in_ok-push.ensures.ok,
-)
+returns-clause-body c = text_after (λ t. t.1) (λ a rows. body (written_rows a rows)) c.push_rows-all.new.writer.0 c.in_ok-writer.writer.0 c.args.actors.now c.push_rows-all.new.writer.1 c.args.rows.now c.push_rows-all.result c.finish.result c.and.result
+    c.and.ensures c.push_rows-all.ensures.actors c.in_ok-writer.ensures.actors c.push_rows-all.ensures.rows c.finish.ensures.body
