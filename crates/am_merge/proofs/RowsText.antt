@@ -3,6 +3,9 @@ use Rattle.std.proofs.Common.{ℕ, zero, suc, ◌≡◌, ◌+◌, ◌≤◌, ◌
 use Rattle.std.proofs.lemmas.Bool.{cases_Bool}
 use Rattle.std.specs.List.{AllByRecursion}
 use Rattle.std.specs.Option.{IfSome}
+use Rattle.std.specs.Prelude.{Result, Ok, Err, IfOk, OnOk}
+use Rattle.std.specs.Result.{result_and}
+use Rattle.std.proofs.lemmas.Result.{IfOk-weaker}
 use Rattle.std.proofs.lemmas.List.{map-append}
 use Rattle.std.proofs.lemmas.List.Elements.{All-from_recursion, recursion_from_All}
 use Rattle.am_types.specs.declared.Change.{Change}
@@ -17,14 +20,10 @@ use Rattle.am_places.proofs.Validity.{have_room, sound_set}
 use Rattle.am_doccols.specs.Conditions.{IsRowFor}
 use Rattle.am_doccols.specs.Front.{HasRoomFor}
 use Rattle.am_merge.specs.Carrying.{CanCarry, taking}
-use Rattle.am_merge.specs.Growing.{Grows, HasTables, rows_in}
+use Rattle.am_merge.specs.Growing.{Grows, rows_in}
 use Rattle.am_merge.specs.Laws.{operations_of}
-use Rattle.am_merge.specs.Naming.{AreTables}
 use Rattle.am_merge.specs.Plans.{Event, carried}
-use Rattle.am_merge.specs.Stops.{done_in}
 use Rattle.am_merge.specs.Walk.{beginning, behind, is_next, spot_of, spot_of_row, walk_into, walk_out, walked}
-use Rattle.am_merge.specs.declared.naming.Tables.{Tables}
-use Rattle.am_merge.specs.declared.stops.Walk.{Walk}
 use Rattle.am_merge.proofs.ElementRows.{new_inside}
 use Rattle.am_merge.proofs.Sorts.{Contains-sorted_by, Contains-from_sorted_by}
 use Rattle.am_merge.proofs.WalkRows.{walks_rows}
@@ -85,9 +84,6 @@ module _ (C E : List Member) (actors : List (List ℕ)) (rs : List Row) (cs : Li
       (sound_set (changes (C ++ E)) whole_set).distinct x
       (Contains-sorted_by operation_cmp (operations_of (C ++ E)) x (new_inside C E g.smaller g.larger x.op.obj x (Contains-from_sorted_by operation_cmp N x c)))
 
-  pub are_tables : (t : Tables) → HasTables A t → AreTables A t
-  are_tables t h = record { named = h.named; hanging_is = h.hanging_is; ascends = ascends_twice; distinct = distinct }
-
   pub few_old : length rs ≤ 2 ^ 22
   few_old =
       let w = (walks_rows C E g.smaller g.larger).walk in
@@ -112,24 +108,37 @@ module _ (C E : List Member) (actors : List (List ℕ)) (rs : List Row) (cs : Li
         room = subst (HasRoomFor []) (sym made) (record { few = let f = g.few in omega arith; few_succs = let f = g.few_succs in omega arith });
       }
 
-  -- ---- the walk's events
+  -- ---- the walk, where these are the added operations
 
-  module _ (t : Tables) (B D : List Operation) (w : Walk) (all : B ≡ ascending (all_operations cs)) (walks : D ≡ ascending (all_operations cs)) (has : HasTables B t)
-      (walk : AreTables D t → done_in t.named.items w ≡ walked D rs 4194304 (beginning D)) where
-    says_events : done_in t.named.items w ≡ walked A rs 4194304 (beginning A)
-    says_events =
-        let e : B ≡ A = all ∙ operations_are in
-        let are : AreTables A t = are_tables t (subst (λ B. HasTables B t) e has) in
-        subst (λ B. AreTables B t → done_in t.named.items w ≡ walked B rs 4194304 (beginning B)) (walks ∙ operations_are) walk are
+  module _ (D : List Operation) (all : D ≡ ascending (all_operations cs)) where
+    are_all : D ≡ A
+    are_all = all ∙ operations_are
 
-    pub can_carry : (es : List Event) → es ≡ done_in t.named.items w → CanCarry actors (Some []) es rs
-    can_carry es e = can es (e ∙ says_events)
+    pub ascend : ascending D ≡ D
+    ascend = subst (λ D. ascending D ≡ D) (sym are_all) ascends_twice
 
-    pub made : (es : List Event) → es ≡ done_in t.named.items w → carried es rs ≡ rows_in (C ++ E)
-    made es e = ap (λ l. carried l rs) (e ∙ says_events) ∙ gives
+    pub are_distinct : HaveDistinctPreds D
+    are_distinct = subst HaveDistinctPreds (sym are_all) distinct
+
+    pub can_walk : CanCarry actors (Some []) (walked D rs 4194304 (beginning D)) rs
+    can_walk = can (walked D rs 4194304 (beginning D)) (ap (λ D. walked D rs 4194304 (beginning D)) are_all)
+
+    pub made : carried (walked D rs 4194304 (beginning D)) rs ≡ rows_in (C ++ E)
+    made = ap (λ D. carried (walked D rs 4194304 (beginning D)) rs) are_all ∙ gives
 
 -- ---- the text
 
 pub is_text : {X : Type 0} (F : List (List ℕ) → List Row → X) (text : X) (a b : List (List ℕ)) (w : Option (List Row)) (rows out : List Row) → b ≡ a → w ≡ Some rows → rows ≡ out
     → IfSome w (λ rows. text ≡ F b rows) → text ≡ F a out
 is_text F text a b w rows out e f g h = subst (λ w. IfSome w (λ rows. text ≡ F b rows)) (f ∙ ap (λ l. Some l) g) h ∙ ap (λ b. F b out) e
+
+-- ---- behind what was written
+
+-- what the text says, where what was written before it says so
+pub text_after : {S T X : Type 0} (written : Result S X) (text both : Result T X) (P Q : T → Type 0) → both ≡ result_and written text → OnOk written ((t : T) → P t → Q t) → IfOk text P → IfOk both Q
+text_after (Ok x) text both P Q e f p = subst (λ r. IfOk r Q) (sym e) (IfOk-weaker text P Q f p)
+text_after (Err x) text both P Q e f p = subst (λ r. IfOk r Q) (sym e) tt
+
+pub OnOk-both : {S X : Type 0} (r : Result S X) (P Q R : Type 0) → (P → Q → R) → OnOk r P → OnOk r Q → OnOk r R
+OnOk-both (Ok x) P Q R f p q = f p q
+OnOk-both (Err x) P Q R f p q = tt

@@ -151,6 +151,27 @@ fn push_turns(
     Ok(())
 }
 
+// The metadata and the body of the columns of the rows of the turns, between which the old ones come out of the cursor.
+fn text_with(
+    alloc: Global,
+    actors: &[ActorId],
+    turns: &[Option<&Change>],
+    rest: &mut MetaCursor<'_>,
+    places: &Places<'_>,
+) -> Result<(Bytes, Bytes), AllocError>
+    requires fine { All (λ t. IfSome t (λ c. Fine c.now)) turns.now }
+    requires all { AllByRecursion (IsMetaFor actors.now) (change_rows places.now (map (option_map (λ c. c.now)) turns.now) rest.old) }
+    requires few { length (change_rows places.now (map (option_map (λ c. c.now)) turns.now) rest.old) ≤ 2 ^ 20 }
+    requires few_deps { dep_count (change_rows places.now (map (option_map (λ c. c.now)) turns.now) rest.old) ≤ 2 ^ 22 }
+    ensures metadata { IfOk result (λ text. text.0 ≡ metadata (listing (written_metas actors.now (change_rows places.now (map (option_map (λ c. c.now)) turns.now) rest.old)))) }
+    ensures body { IfOk result (λ text. text.1 ≡ body (written_metas actors.now (change_rows places.now (map (option_map (λ c. c.now)) turns.now) rest.old))) }
+{
+    let mut writer = MetaWriter::new(alloc, actors)?;
+    // (no way out lets go of the writer, whose proof would take long)
+    let all = push_turns(alloc, &mut writer, turns, rest, places);
+    all.and(writer.finish())
+}
+
 /// The metadata and the body of the columns of the change rows of a larger set: in the order of the turns those of the added
 /// changes, and between them the old ones. The places are those of all changes.
 pub fn metas_text(
@@ -167,13 +188,6 @@ pub fn metas_text(
     ensures metadata { IfOk result (λ text. text.0 ≡ metadata (listing (written_metas actors.now (change_rows places.now (map (option_map (λ c. c.now)) turns.now) old.entry)))) }
     ensures body { IfOk result (λ text. text.1 ≡ body (written_metas actors.now (change_rows places.now (map (option_map (λ c. c.now)) turns.now) old.entry))) }
 {
-    let mut writer = MetaWriter::new(alloc, actors)?;
     let mut rest = old;
-    // (no way out lets go of the writer, whose proof would take long)
-    let all = push_turns(alloc, &mut writer, turns, &mut rest, places);
-    let text = writer.finish();
-    match all {
-        Ok(()) => text,
-        Err(fault) => Err(fault),
-    }
+    text_with(alloc, actors, turns, &mut rest, places)
 }

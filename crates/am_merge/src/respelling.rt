@@ -27,6 +27,25 @@ fn behind_all<'a>(rows: MetaCursor<'a>) -> MetaCursor<'a>
     rest
 }
 
+// The metadata and the body of the columns of the rows that are left in the cursor, with places in this list of actors.
+fn text_of(
+    alloc: Global,
+    actors: &[ActorId],
+    from: &mut RowCursor<'_>,
+) -> Result<(Bytes, Bytes), AllocError>
+    requires fit { AllByRecursion (IsRowFor actors.now) from.old }
+    requires few { length from.old ≤ 2 ^ 22 }
+    requires few_succs { succ_count from.old ≤ 2 ^ 22 }
+    ensures metadata { IfOk result (λ text. text.0 ≡ metadata (listing (written_rows actors.now from.old))) }
+    ensures body { IfOk result (λ text. text.1 ≡ columns_body (written_rows actors.now from.old)) }
+{
+    let mut writer = RowWriter::new(alloc, actors)?;
+    let count = from.left();
+    // (no way out lets go of the writer, whose proof would take long)
+    let all = writer.take(from, count);
+    all.and(writer.finish())
+}
+
 // The metadata and the body of the columns of these rows, with places in this list of actors.
 fn rows_over(
     alloc: Global,
@@ -39,16 +58,8 @@ fn rows_over(
     ensures metadata { IfOk result (λ text. text.0 ≡ metadata (listing (written_rows actors.now rows.entry))) }
     ensures body { IfOk result (λ text. text.1 ≡ columns_body (written_rows actors.now rows.entry)) }
 {
-    let mut writer = RowWriter::new(alloc, actors)?;
     let mut from = rows;
-    let count = from.left();
-    // (no way out lets go of the writer, whose proof would take long)
-    let all = writer.take(&mut from, count);
-    let text = writer.finish();
-    match all {
-        Ok(()) => text,
-        Err(fault) => Err(fault),
-    }
+    text_of(alloc, actors, &mut from)
 }
 
 /// The contents of the canonical document of a set, from any document of it, which is read in place, and the set's changes in the

@@ -1,11 +1,15 @@
 //! The rows of a larger set's document.
-ghost use Rattle.std.specs.Prelude.{◌≡◌, ◌≤◌, ◌^◌, ◌++◌, [], List, length, map, IfOk};
+ghost use Rattle.std.specs.Prelude.{◌≡◌, ◌≤◌, ◌^◌, ◌++◌, [], List, Some, length, map, IfOk};
 ghost use Rattle.am_types.specs.Members.{Member};
+ghost use Rattle.am_types.specs.Operations.{ascending};
 ghost use Rattle.am_places.specs.Numbered.{operation_of};
+ghost use Rattle.am_places.specs.Sound.{HaveDistinctPreds};
 ghost use Rattle.am_colmeta.specs.Metadata.{metadata, listing, body};
 ghost use Rattle.am_doccols.specs.Columns.{written_rows};
+ghost use Rattle.am_merge.specs.Carrying.{CanCarry};
 ghost use Rattle.am_merge.specs.Growing.{Grows, HasTables, rows_in};
 ghost use Rattle.am_merge.specs.Naming.{AreTables};
+ghost use Rattle.am_merge.specs.Plans.{carried};
 ghost use Rattle.am_merge.specs.Stops.{done_in, waiting_of};
 ghost use Rattle.am_merge.specs.Walk.{beginning, walked};
 ghost use Rattle.am_merge.specs.declared.naming.Naming.{Naming};
@@ -72,6 +76,49 @@ fn walk_all<'a>(
     Ok(walk)
 }
 
+// The metadata and the body of the columns of the rows that the walk makes of these, where the tables are known.
+fn walked_text<'a>(
+    alloc: Global,
+    actors: &[ActorId],
+    rows: &RowCursor<'_>,
+    operations: &[Numbered<'a>],
+    tables: &Tables<'a>,
+) -> Result<(Bytes, Bytes), AllocError>
+    requires tables { AreTables (map operation_of operations.now) tables.now }
+    requires few { length rows.now ≤ 2 ^ 22 }
+    requires can { CanCarry actors.now (Some []) (walked (map operation_of operations.now) rows.now 4194304 (beginning (map operation_of operations.now))) rows.now }
+    ensures metadata { IfOk result (λ text. text.0 ≡ metadata (listing (written_rows actors.now (carried (walked (map operation_of operations.now) rows.now 4194304 (beginning (map operation_of operations.now))) rows.now)))) }
+    ensures body { IfOk result (λ text. text.1 ≡ body (written_rows actors.now (carried (walked (map operation_of operations.now) rows.now 4194304 (beginning (map operation_of operations.now))) rows.now))) }
+{
+    let walk = walk_all(alloc, operations, tables, rows)?;
+    carried_text(
+        alloc,
+        actors,
+        rows,
+        tables.named.as_slice(),
+        walk.stops.as_slice(),
+        walk.skipped,
+    )
+}
+
+// The metadata and the body of the columns of the rows that the walk makes of these.
+fn text_with<'a>(
+    alloc: Global,
+    actors: &[ActorId],
+    rows: &RowCursor<'_>,
+    operations: &[Numbered<'a>],
+) -> Result<(Bytes, Bytes), AllocError>
+    requires ascends { ascending (map operation_of operations.now) ≡ (map operation_of operations.now) }
+    requires distinct { HaveDistinctPreds (map operation_of operations.now) }
+    requires few { length rows.now ≤ 2 ^ 22 }
+    requires can { CanCarry actors.now (Some []) (walked (map operation_of operations.now) rows.now 4194304 (beginning (map operation_of operations.now))) rows.now }
+    ensures metadata { IfOk result (λ text. text.0 ≡ metadata (listing (written_rows actors.now (carried (walked (map operation_of operations.now) rows.now 4194304 (beginning (map operation_of operations.now))) rows.now)))) }
+    ensures body { IfOk result (λ text. text.1 ≡ body (written_rows actors.now (carried (walked (map operation_of operations.now) rows.now 4194304 (beginning (map operation_of operations.now))) rows.now))) }
+{
+    let tables = tables_of(alloc, operations)?;
+    walked_text(alloc, actors, rows, operations, &tables)
+}
+
 /// The metadata and the body of the columns of the larger set's rows, from the rows of the smaller one and the added changes.
 /// Places name these actors. It takes time in n log m + m log m, of n old rows and m added operations and what they name.
 pub(crate) fn rows_text(
@@ -85,14 +132,5 @@ pub(crate) fn rows_text(
     ensures body { IfOk result (λ text. (C E : List Member) → Grows C E actors.now rows.entry (map (λ c. c.now) added.now) → text.1 ≡ body (written_rows actors.now (rows_in (C ++ E)))) }
 {
     let operations = added_operations(alloc, added)?;
-    let tables = tables_of(alloc, operations.as_slice())?;
-    let walk = walk_all(alloc, operations.as_slice(), &tables, &rows)?;
-    carried_text(
-        alloc,
-        actors,
-        &rows,
-        tables.named.as_slice(),
-        walk.stops.as_slice(),
-        walk.skipped,
-    )
+    text_with(alloc, actors, &rows, operations.as_slice())
 }

@@ -51,25 +51,26 @@ impl<'a> LentRow<'a> {
 
 // ---- from the columns of a document
 
-fn succs_in<'a>(alloc: Global, succs: SuccCursor<'a>) -> Result<Vec<IdRef<'a>>, AllocError>
-    ensures { IfOk result (λ lent. map id_of lent.items ≡ succs.entry) }
+// The ids that are left of a cursor, which are read.
+fn succs_in<'a>(alloc: Global, succs: &mut SuccCursor<'a>) -> Result<Vec<IdRef<'a>>, AllocError>
+    ensures { IfOk result (λ lent. map id_of lent.items ≡ succs.old) }
 {
-    let mut rest = succs;
-    let Some(first) = rest.next() else {
+    let Some(first) = succs.next() else {
         return Ok(Vec::new(alloc));
     };
     // Most rows that have successors have one.
     let mut lent = Vec::with_capacity(alloc, 1)?;
     lent.push(first)?;
-    while let Some(id) = rest.next() {
+    while let Some(id) = succs.next() {
         lent.push(id)?;
     }
     Ok(lent)
 }
 
-fn row_in<'a>(alloc: Global, row: RowRef<'a>) -> Result<LentRow<'a>, AllocError>
-    requires { IsCopied (row_of row) }
-    ensures { IfOk result (λ lent. lent ≡ row_of row.entry) }
+// The row, whose successors are read.
+fn row_in<'a>(alloc: Global, row: &mut RowRef<'a>) -> Result<LentRow<'a>, AllocError>
+    requires { IsCopied (row_of row.old) }
+    ensures { IfOk result (λ lent. lent ≡ row_of row.old) }
 {
     Ok(LentRow {
         obj: row.obj,
@@ -78,7 +79,7 @@ fn row_in<'a>(alloc: Global, row: RowRef<'a>) -> Result<LentRow<'a>, AllocError>
         insert: row.insert,
         action: row.action,
         value: row.value,
-        succs: succs_in(alloc, row.succs)?,
+        succs: succs_in(alloc, &mut row.succs)?,
         expand: row.expand,
         mark: row.mark,
     })
@@ -94,8 +95,9 @@ pub(crate) fn rows_in<'a>(
 {
     let mut lent = Vec::with_capacity(alloc, rows.left() as usize)?;
     let mut rest = rows;
-    while let Some(row) = rest.next() {
-        lent.push(row_in(alloc, row)?)?;
+    let mut row = RowRef::blank();
+    while rest.next_into(&mut row) {
+        lent.push(row_in(alloc, &mut row)?)?;
     }
     Ok(lent)
 }
