@@ -1,11 +1,12 @@
 //! The changes of a file, as far as it is read.
-ghost use Rattle.std.specs.Prelude.{◌≡◌, ◌++◌, ◌∷◌, [], None, OnOk, vec_items};
+ghost use Rattle.std.specs.Prelude.{◌≡◌, ◌++◌, ◌∷◌, [], None, IfSome, OnOk, vec_items};
 ghost use Rattle.am_types.specs.Members.{changes};
 ghost use Rattle.am_types.specs.Operations.{all_operations};
 ghost use Rattle.am_types.specs.Rows.{rows};
 ghost use Rattle.am_types.specs.ValidSets.{Valid};
 ghost use Rattle.am_fits.specs.Indexes.{AreOf};
 ghost use Rattle.am_delivery.specs.Waiting.{members_of};
+ghost use Rattle.am_store.specs.Adopting.{IsBuilt};
 
 use am_doc::DocRef;
 use am_fits::OpIndex;
@@ -14,6 +15,7 @@ use am_rebuild::Rebuilt;
 use am_types::{Change, Hash};
 use std::alloc::{AllocError, Global};
 use std::marker::Model;
+use std::mem::replace;
 
 /// What is built of a set of changes, and a document of it.
 #[derive(Drop)]
@@ -29,9 +31,9 @@ pub struct Built<'a> {
 /// The changes of the chunks that were read, each behind its hash. Contracts see the changes.
 #[derive(Drop)]
 pub struct FileChanges<'a> {
-    pub(crate) entries: Vec<(Hash, Change)>,
+    entries: Vec<(Hash, Change)>,
     /// What is built of them, while they are those of one document alone. A box is let go in one step of a proof.
-    pub(crate) built: Option<Box<Built<'a>>>,
+    built: Option<Box<Built<'a>>>,
 }
 
 impl<'a> Model for FileChanges<'a> {
@@ -82,6 +84,7 @@ impl<'a> FileChanges<'a> {
     }
 
     /// The changes of a document, behind those that are there. Where they are the first, what was built of them is kept.
+    /// An error says that memory was wanted; then the changes are of no use.
     pub fn append(
         &mut self,
         alloc: Global,
@@ -127,10 +130,26 @@ impl<'a> FileChanges<'a> {
         Ok(())
     }
 
-    /// The changes alone.
-    pub fn into_entries(self) -> Vec<(Hash, Change)>
-        ensures { vec_items result ≡ self.entry }
+    /// The changes, lent.
+    pub fn as_slice(&self) -> &[(Hash, Change)]
+        ensures { result.now ≡ self.now }
     {
-        self.entries
+        self.entries.as_slice()
+    }
+
+    /// The changes alone are taken out.
+    pub fn take_entries(&mut self, alloc: Global) -> Vec<(Hash, Change)>
+        ensures { vec_items result ≡ self.old }
+    {
+        let_go(&mut self.built);
+        replace(&mut self.entries, Vec::new(alloc))
+    }
+
+    /// What was built of them is taken out, where there is something.
+    pub fn take_built(&mut self) -> Option<Box<Built<'a>>>
+        ensures built { IfSome result (λ b. IsBuilt self.old b.value) }
+        ensures kept { self.new ≡ self.old }
+    {
+        self.built.take()
     }
 }

@@ -4,6 +4,7 @@ ghost use Rattle.am_types.specs.Canonical.{order};
 ghost use Rattle.am_types.specs.Members.{Member, holds, member};
 ghost use Rattle.am_graph.specs.Graphs.{nodes};
 ghost use Rattle.am_delivery.specs.Waiting.{members_of};
+ghost use Rattle.am_rebuild.specs.declared.fault.RebuildFault.TheVariants.{NoMemory};
 ghost use Rattle.am_store.specs.Contents.{IsContents, AreContents, ForContents};
 ghost use Rattle.am_store.specs.Listed.{IsListed, AreRoomFor, placed, standing};
 
@@ -16,6 +17,17 @@ use am_rebuild::{RebuildFault, rebuild_whole};
 use am_types::{Change, Hash};
 use std::alloc::{AllocError, Global};
 
+/// Want of memory, which alone keeps the changes of a set from being rebuilt.
+fn no_memory(fault: RebuildFault) -> AllocError
+    requires { fault ≡ NoMemory }
+{
+    match fault {
+        RebuildFault::NoHistory => unreachable!(),
+        RebuildFault::HeadsMismatch(_) => unreachable!(),
+        RebuildFault::NoMemory => AllocError,
+    }
+}
+
 /// The changes of the set with these contents, each behind its hash, in canonical order.
 pub fn rebuilt(alloc: Global, contents: &[u8]) -> Result<Vec<(Hash, Change)>, AllocError>
     requires { AreContents contents.now }
@@ -25,9 +37,7 @@ pub fn rebuilt(alloc: Global, contents: &[u8]) -> Result<Vec<(Hash, Change)>, Al
     listing_is_free();
     match rebuild_whole(alloc, doc_of(contents)) {
         Ok(document) => Ok(entries_of(document)),
-        Err(RebuildFault::NoHistory) => unreachable!(),
-        Err(RebuildFault::HeadsMismatch(_)) => unreachable!(),
-        Err(RebuildFault::NoMemory) => Err(AllocError),
+        Err(fault) => Err(no_memory(fault)),
     }
 }
 

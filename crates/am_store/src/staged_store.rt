@@ -1,5 +1,5 @@
 //! A store whose document is made when it is read.
-ghost use Rattle.std.specs.Prelude.{◌≡◌, List, [], All, IfOk, IfErr, OnOk, OnErr, true, vec_items};
+ghost use Rattle.std.specs.Prelude.{◌≡◌, List, [], All, IfOk, IfErr, OnOk, OnErr, Some, true, false, vec_items};
 ghost use Rattle.am_types.specs.declared.Change.{Change as AChange};
 ghost use Rattle.am_types.specs.Deliver.{MayCome};
 ghost use Rattle.am_types.specs.Members.{hashes};
@@ -82,6 +82,44 @@ fn is_any_held(graph: &Graph, changes: &[(Hash, Change)]) -> bool {
     false
 }
 
+/// Puts what the store keeps ahead of its document. Without memory nothing has changed.
+fn put_ahead(
+    alloc: Global,
+    store: &mut Store,
+    ahead: &mut Option<Unsettled>,
+) -> Result<(), AllocError>
+    ensures ok { OnOk result (ahead.new ≡ Some store.old) }
+    ensures store { OnErr result (store.new ≡ store.old) }
+    ensures ahead { OnErr result (ahead.new ≡ ahead.old) }
+{
+    let none = Store::new(alloc)?;
+    let full = replace(store, none);
+    *ahead = Some(Unsettled::over(alloc, full));
+    Ok(())
+}
+
+/// The store of all, whose document is made of what is staged; without memory the same again.
+fn merged(alloc: Global, ahead: Unsettled) -> Result<Store, Unsettled>
+    ensures ok { IfOk result (λ store. store ≡ ahead) }
+    ensures err { IfErr result (λ same. same ≡ ahead) }
+{
+    match ahead.merged(alloc) {
+        Ok(contents) => Ok(ahead.into_store(alloc, contents)),
+        Err(_) => Err(ahead),
+    }
+}
+
+/// The store of all. Where nothing is staged it takes no memory; without memory the same again.
+fn settled(alloc: Global, ahead: Unsettled) -> Result<Store, Unsettled>
+    ensures ok { IfOk result (λ store. store ≡ ahead) }
+    ensures err { IfErr result (λ same. same ≡ ahead) }
+{
+    match ahead.into_whole(alloc) {
+        Ok(store) => Ok(store),
+        Err(ahead) => merged(alloc, ahead),
+    }
+}
+
 impl StagedStore {
     /// A store of no changes.
     pub fn new(alloc: Global) -> Result<StagedStore, AllocError>
@@ -109,8 +147,8 @@ impl StagedStore {
         ensures load { IfErr result (λ fault. MatchLoad fault (λ e. FirstBad only_changes bytes.now e.chunk e.fault)) }
         ensures err { OnErr result (self.new.kept ≡ self.old.kept) }
     {
-        let changes = changes_in(alloc, bytes, only_changes)?;
-        let report = self.take_file(alloc, changes, bytes.len() as u64)?;
+        let mut changes = changes_in(alloc, bytes, only_changes)?;
+        let report = self.take_file(alloc, &mut changes, bytes.len() as u64)?;
         Ok(report)
     }
 
@@ -118,21 +156,20 @@ impl StagedStore {
     fn take_file(
         &mut self,
         alloc: Global,
-        changes: FileChanges<'_>,
+        changes: &mut FileChanges<'_>,
         length: u64,
     ) -> Result<Report, AllocError>
-        requires may_come { All MayCome (members_of changes) }
-        requires own_hashes { HasOwnHashes (members_of changes) }
-        ensures ok { IfOk result (λ report. Takes self.old.kept (members_of changes.entry) report self.new.kept) }
-        ensures order { OnOk result (ComesInAnyOrder self.old.kept (members_of changes.entry) self.new.kept) }
+        requires may_come { All MayCome (members_of changes.old) }
+        requires own_hashes { HasOwnHashes (members_of changes.old) }
+        ensures ok { IfOk result (λ report. Takes self.old.kept (members_of changes.old) report self.new.kept) }
+        ensures order { OnOk result (ComesInAnyOrder self.old.kept (members_of changes.old) self.new.kept) }
         ensures err { OnErr result (self.new.kept ≡ self.old.kept) }
     {
-        if self.comes_at_once(changes.entries.as_slice(), length) {
-            self.settle(alloc)?;
-            return self.merge(alloc, changes);
+        if self.comes_at_once(changes.as_slice(), length) {
+            self.settle_and_merge(alloc, changes)
+        } else {
+            self.stage(alloc, changes, length)
         }
-        self.staged = self.staged.saturating_add(length);
-        self.stage(alloc, changes.into_entries())
     }
 
     /// Whether these changes, of a file of this length, are better merged into the document at once: where there is nothing
@@ -147,13 +184,29 @@ impl StagedStore {
             || is_any_held(self.graph(), changes)
     }
 
+    /// Delivers the changes of a file. What is staged is merged into the document, and then they are.
+    fn settle_and_merge(
+        &mut self,
+        alloc: Global,
+        changes: &mut FileChanges<'_>,
+    ) -> Result<Report, AllocError>
+        requires may_come { All MayCome (members_of changes.old) }
+        requires own_hashes { HasOwnHashes (members_of changes.old) }
+        ensures ok { IfOk result (λ report. Takes self.old.kept (members_of changes.old) report self.new.kept) }
+        ensures order { OnOk result (ComesInAnyOrder self.old.kept (members_of changes.old) self.new.kept) }
+        ensures err { OnErr result (self.new.kept ≡ self.old.kept) }
+    {
+        self.settle(alloc)?;
+        self.merge(alloc, changes)
+    }
+
     /// Delivers the changes of a file to the settled store, which merges them into its document.
-    fn merge(&mut self, alloc: Global, changes: FileChanges<'_>) -> Result<Report, AllocError>
+    fn merge(&mut self, alloc: Global, changes: &mut FileChanges<'_>) -> Result<Report, AllocError>
         requires settled { self.old.settled ≡ true }
-        requires may_come { All MayCome (members_of changes) }
-        requires own_hashes { HasOwnHashes (members_of changes) }
-        ensures ok { IfOk result (λ report. Takes self.old.kept (members_of changes.entry) report self.new.kept) }
-        ensures order { OnOk result (ComesInAnyOrder self.old.kept (members_of changes.entry) self.new.kept) }
+        requires may_come { All MayCome (members_of changes.old) }
+        requires own_hashes { HasOwnHashes (members_of changes.old) }
+        ensures ok { IfOk result (λ report. Takes self.old.kept (members_of changes.old) report self.new.kept) }
+        ensures order { OnOk result (ComesInAnyOrder self.old.kept (members_of changes.old) self.new.kept) }
         ensures err { OnErr result (self.new.kept ≡ self.old.kept) }
     {
         let report = self.store.take_file(alloc, changes)?;
@@ -170,33 +223,55 @@ impl StagedStore {
         self.staged = 0;
     }
 
-    /// What is kept, for changes to be staged. Without memory the store is as before.
-    fn take_unsettled(&mut self, alloc: Global) -> Result<Unsettled, AllocError>
-        ensures ok { IfOk result (λ ahead. ahead ≡ self.old.kept) }
+    /// Makes room for changes to be staged. The same is kept as before; without memory the store is as before.
+    fn go_ahead(&mut self, alloc: Global) -> Result<(), AllocError>
+        ensures kept { self.new.kept ≡ self.old.kept }
+        ensures ahead { OnOk result (self.new.settled ≡ false) }
         ensures err { OnErr result (self.new ≡ self.old) }
     {
-        match self.ahead.take() {
-            Some(ahead) => Ok(ahead),
-            None => {
-                let none = Store::new(alloc)?;
-                let store = replace(&mut self.store, none);
-                Ok(Unsettled::over(alloc, store))
-            }
+        if self.ahead.is_some() {
+            return Ok(());
         }
+        put_ahead(alloc, &mut self.store, &mut self.ahead)?;
+        Ok(())
     }
 
-    /// Delivers changes, of which those that join are staged.
-    fn stage(&mut self, alloc: Global, changes: Vec<(Hash, Change)>) -> Result<Report, AllocError>
+    /// Delivers the changes of a file of this length. Those that join are staged.
+    fn stage(
+        &mut self,
+        alloc: Global,
+        changes: &mut FileChanges<'_>,
+        length: u64,
+    ) -> Result<Report, AllocError>
+        requires may_come { All MayCome (members_of changes.old) }
+        requires own_hashes { HasOwnHashes (members_of changes.old) }
+        ensures ok { IfOk result (λ report. Takes self.old.kept (members_of changes.old) report self.new.kept) }
+        ensures order { OnOk result (ComesInAnyOrder self.old.kept (members_of changes.old) self.new.kept) }
+        ensures err { OnErr result (self.new.kept ≡ self.old.kept) }
+    {
+        self.go_ahead(alloc)?;
+        self.stage_ahead(alloc, changes.take_entries(alloc), length)
+    }
+
+    /// Delivers changes to a store that is ahead of its document.
+    fn stage_ahead(
+        &mut self,
+        alloc: Global,
+        changes: Vec<(Hash, Change)>,
+        length: u64,
+    ) -> Result<Report, AllocError>
+        requires ahead { self.old.settled ≡ false }
         requires may_come { All MayCome (members_of (vec_items changes)) }
         requires own_hashes { HasOwnHashes (members_of (vec_items changes)) }
         ensures ok { IfOk result (λ report. Takes self.old.kept (members_of (vec_items changes)) report self.new.kept) }
         ensures order { OnOk result (ComesInAnyOrder self.old.kept (members_of (vec_items changes)) self.new.kept) }
         ensures err { OnErr result (self.new.kept ≡ self.old.kept) }
     {
-        let mut ahead = self.take_unsettled(alloc)?;
-        let taken = ahead.take(alloc, changes);
-        self.ahead = Some(ahead);
-        taken
+        self.staged = self.staged.saturating_add(length);
+        match &mut self.ahead {
+            Some(ahead) => ahead.take(alloc, changes),
+            None => unreachable!(),
+        }
     }
 
     /// Merges what is staged into the document. The same is kept as before.
@@ -208,23 +283,25 @@ impl StagedStore {
         let Some(ahead) = self.ahead.take() else {
             return Ok(());
         };
-        let ahead = match ahead.into_whole(alloc) {
+        match settled(alloc, ahead) {
             Ok(store) => {
                 self.store = store;
-                return Ok(());
-            }
-            Err(ahead) => ahead,
-        };
-        match ahead.merged(alloc) {
-            Ok(contents) => {
-                self.store = ahead.into_store(alloc, contents);
-                self.note_written();
+                self.note_merged();
                 Ok(())
             }
-            Err(error) => {
+            Err(ahead) => {
                 self.ahead = Some(ahead);
-                Err(error)
+                Err(AllocError)
             }
+        }
+    }
+
+    /// Notes how large the document of the settled store is, where it was made anew.
+    fn note_merged(&mut self)
+        ensures { self.new ≡ self.old }
+    {
+        if size_of(self.store.counts()) != self.written {
+            self.note_written();
         }
     }
 

@@ -46,7 +46,7 @@ use am_merge::respelled;
 use am_types::{Bytes, Change, Hash, List, Twin};
 use std::alloc::{AllocError, Global};
 use std::marker::Model;
-use std::mem::replace;
+use std::mem::{replace, swap};
 
 /// A closed set of changes, and those that wait for dependencies. Contracts see the two lists of changes, each beside
 /// its hash. Of the closed set the code has the contents of its canonical document, from which its changes are rebuilt where
@@ -78,9 +78,9 @@ impl Store {
     pub fn new(alloc: Global) -> Result<Store, AllocError>
         ensures { IfOk result (λ store. store ≡ record { closed = []; waiting = [] }) }
     {
+        let contents = empty_contents(alloc)?;
         let graph = Graph::new(alloc);
         let index = OpIndex::new(alloc);
-        let contents = empty_contents(alloc)?;
         let counts = counted(index.totals(), 0);
         Ok(Store {
             contents,
@@ -106,8 +106,8 @@ impl Store {
         ensures load { IfErr result (λ fault. MatchLoad fault (λ e. FirstBad only_changes bytes.now e.chunk e.fault)) }
         ensures err { OnErr result (self.new ≡ self.old) }
     {
-        let changes = changes_in(alloc, bytes, only_changes)?;
-        let report = self.take_file(alloc, changes)?;
+        let mut changes = changes_in(alloc, bytes, only_changes)?;
+        let report = self.take_file(alloc, &mut changes)?;
         Ok(report)
     }
 
@@ -133,21 +133,20 @@ impl Store {
     pub(crate) fn take_file(
         &mut self,
         alloc: Global,
-        changes: FileChanges<'_>,
+        changes: &mut FileChanges<'_>,
     ) -> Result<Report, AllocError>
-        requires may_come { All MayCome (members_of changes) }
-        requires own_hashes { HasOwnHashes (members_of changes) }
-        ensures ok { IfOk result (λ report. Takes self.old (members_of changes.entry) report self.new) }
-        ensures order { OnOk result (ComesInAnyOrder self.old (members_of changes.entry) self.new) }
+        requires may_come { All MayCome (members_of changes.old) }
+        requires own_hashes { HasOwnHashes (members_of changes.old) }
+        ensures ok { IfOk result (λ report. Takes self.old (members_of changes.old) report self.new) }
+        ensures order { OnOk result (ComesInAnyOrder self.old (members_of changes.old) self.new) }
         ensures err { OnErr result (self.new ≡ self.old) }
     {
         if !self.is_empty() {
-            return self.take(alloc, changes.into_entries());
+            return self.take(alloc, changes.take_entries(alloc));
         }
-        let FileChanges { entries, built } = changes;
-        match built {
-            Some(built) => self.adopt(alloc, entries, built),
-            None => self.take(alloc, entries),
+        match changes.take_built() {
+            Some(mut built) => self.adopt(alloc, changes.as_slice(), &mut built),
+            None => self.take(alloc, changes.take_entries(alloc)),
         }
     }
 
@@ -156,34 +155,49 @@ impl Store {
     fn adopt(
         &mut self,
         alloc: Global,
-        entries: Vec<(Hash, Change)>,
-        built: Box<Built<'_>>,
+        entries: &[(Hash, Change)],
+        built: &mut Built<'_>,
     ) -> Result<Report, AllocError>
         requires empty { self.old ≡ nothing }
-        requires built { IsBuilt (vec_items entries) built.value }
-        requires own_hashes { HasOwnHashes (members_of (vec_items entries)) }
-        ensures ok { IfOk result (λ report. Takes self.old (members_of (vec_items entries)) report self.new) }
-        ensures order { OnOk result (ComesInAnyOrder self.old (members_of (vec_items entries)) self.new) }
+        requires built { IsBuilt entries.now built.old }
+        requires own_hashes { HasOwnHashes (members_of entries.now) }
+        ensures ok { IfOk result (λ report. Takes self.old (members_of entries.now) report self.new) }
+        ensures order { OnOk result (ComesInAnyOrder self.old (members_of entries.now) self.new) }
         ensures err { OnErr result (self.new ≡ self.old) }
+    {
+        let contents = contents_for(alloc, entries, built)?;
+        Ok(self.put_in(alloc, entries, built, contents))
+    }
+
+    /// Puts in changes with what was built of them, and the contents of their document. Nothing was there.
+    fn put_in(
+        &mut self,
+        alloc: Global,
+        entries: &[(Hash, Change)],
+        built: &mut Built<'_>,
+        contents: Bytes,
+    ) -> Report
+        requires empty { self.old ≡ nothing }
+        requires built { IsBuilt entries.now built.old }
+        requires own_hashes { HasOwnHashes (members_of entries.now) }
+        requires contents { contents ≡ body (table (members_of entries.now)) }
+        ensures takes { Takes self.old (members_of entries.now) result self.new }
+        ensures order { ComesInAnyOrder self.old (members_of entries.now) self.new }
     {
         comes_back();
         listing_is_free();
         order_is_free();
         valid_sets_keep_rules();
-        let contents = contents_for(alloc, entries.as_slice(), &built)?;
-        let (own_graph, own_index) = parts_of(built);
-        let report = Report {
-            added: count_of(entries.as_slice()),
+        exchange(&mut self.graph, &mut self.index, built);
+        self.waiting.pending = None;
+        self.counts = counted(self.index.totals(), 0);
+        self.closed = Unseen::of(entries);
+        self.contents = contents;
+        Report {
+            added: count_of(entries),
             waiting: 0,
             rejected: List::new(alloc),
-        };
-        self.waiting.pending = None;
-        self.counts = counted(own_index.totals(), 0);
-        self.closed = Unseen::of(entries.as_slice());
-        self.contents = contents;
-        self.graph = own_graph;
-        self.index = own_index;
-        Ok(report)
+        }
     }
 
     /// The changes of the closed set, where one of these hashes is held, since then they are compared. Else nothing.
@@ -373,16 +387,13 @@ fn contents_for(
     respelled(alloc, &built.doc, lent.as_slice(), &built.graph)
 }
 
-/// The graph and the index. The document is let go.
-fn parts_of(built: Box<Built<'_>>) -> (Graph, OpIndex)
-    ensures { result ≡ (built.entry.value.graph, built.entry.value.index) }
+/// Exchanges the graph and the index for those that were built.
+fn exchange(graph: &mut Graph, index: &mut OpIndex, built: &mut Built<'_>)
+    ensures graph { graph.new ≡ built.old.graph }
+    ensures index { index.new ≡ built.old.index }
 {
-    let Built {
-        graph,
-        index,
-        doc: _,
-    } = Box::into_inner(built);
-    (graph, index)
+    swap(graph, &mut built.graph);
+    swap(index, &mut built.index);
 }
 
 /// How many changes there are.

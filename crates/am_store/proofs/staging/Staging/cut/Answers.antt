@@ -1,4 +1,4 @@
-use Rattle.std.proofs.Common.{◌≡◌, ◌++◌, [], sym, ap, subst, ◌∙◌}
+use Rattle.std.proofs.Common.{◌≡◌, ◌++◌, sym, ap, subst, ◌∙◌}
 use Rattle.am_types.specs.Members.{changes}
 use Rattle.am_graph.specs.Graphs.{HasDistinctSeqs}
 use Rattle.am_delivery.specs.Waiting.{members_of}

@@ -2,7 +2,7 @@ use Rattle.std.proofs.Common.{◌≡◌, sym, ap, subst, ◌∙◌}
 use Rattle.am_delivery.specs.Waiting.{members_of, waiting_of, IsTracked}
 use Rattle.am_store.specs.Grown.{Grown}
 use Rattle.am_store.specs.Kept.{Kept, IsKept}
-use Rattle.am_store.proofs.Taking.{begins, rests}
+use Rattle.am_store.proofs.Taking.{rests}
 use Rattle.am_store.proofs.Wholes.{its_parts}
 use Rattle.am_store.proofs.unsettled.Unsettled.over.Goals as goal
 
