@@ -1,12 +1,15 @@
 -- A clock of some changes covers the ids that these cover.
-use Rattle.std.proofs.Common.{ℕ, ◌≡◌, ◌∙◌, List, Bool, true, ◌&&◌, nat_le, sym, ap}
+use Rattle.std.proofs.Common.{ℕ, ◌≡◌, ◌∙◌, refl, List, [], ◌∷◌, Bool, true, ◌&&◌, nat_le, sym, ap}
 use Rattle.std.proofs.lemmas.Bool.{and_parts, and_from, le-leb, leb-true}
 use Rattle.std.proofs.lemmas.Cmp.{nat_list_eq_equiv}
 use Rattle.std.proofs.lemmas.List.Folds.{Any-from_list_any, list_any-from_Any}
 use Rattle.am_types.specs.declared.OpId.{OpId}
 use Rattle.am_types.specs.declared.Hash.{Hash}
+use Rattle.am_types.specs.declared.Key.{Key}
+use Rattle.am_types.specs.declared.Key.TheVariants.{Name, Head, Elem}
+use Rattle.am_types.specs.Elements.{HasReference, part}
 use Rattle.am_types.specs.Same.{same_bytes}
-use Rattle.am_types.specs.Operations.{max, all_operations}
+use Rattle.am_types.specs.Operations.{Operation, max, all_operations}
 use Rattle.am_types.specs.Members.{Member, changes}
 use Rattle.am_types.specs.Ancestors.{ancestors}
 use Rattle.am_types.specs.ValidSets.{Valid}
@@ -17,7 +20,10 @@ use Rattle.am_types.proofs.Orders.{same_bytes-true}
 use Rattle.am_laws.proofs.Growth.{same_answers}
 use Rattle.am_graph.specs.declared.Reach.{Reach}
 use Rattle.am_graph.specs.Clocks.{covers, Covers, IsClockOf}
+use Rattle.am_view.specs.Seen.{everything}
 use Rattle.am_view.specs.Steps.{walk}
+use Rattle.am_view.proofs.Named.{orderly}
+use Rattle.am_view.proofs.Showing.{shown_is}
 use Rattle.am_view.proofs.Reading.{reads_by_rows}
 use Rattle.am_view.proofs.Walking.{walks_rows}
 
@@ -52,3 +58,19 @@ walk_is_replay C heads v clock is =
     ap (λ test. walk test (rows (all_operations (changes C)))) (covers_alike (ancestors C heads) clock is)
     ∙ walks_rows C v (types.covers (ancestors C heads))
     ∙ reads_by_rows C v heads
+
+-- what one walk finds along the rows of a valid set, where every id is covered
+pub walk_everything : (C : List Member) → Valid C → walk everything (rows (all_operations (changes C))) ≡ replay (all_operations (changes C))
+walk_everything C v =
+    walks_rows C v everything
+    ∙ shown_is everything (all_operations (changes C)) (orderly C v) (λ x c k. anchored x.op.key)
+    ∙ ap replay (every (all_operations (changes C)))
+  where
+    anchored : (k : Key) → HasReference everything k
+    anchored (Name n) = tt
+    anchored Head = tt
+    anchored (Elem r) = refl
+
+    every : (xs : List Operation) → part everything xs ≡ xs
+    every [] = refl
+    every (x ∷ xs) = ap (λ l. x ∷ l) (every xs)

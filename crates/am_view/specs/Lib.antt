@@ -1,4 +1,5 @@
 pub mod Reads
+pub mod Seen
 pub mod Steps
 pub mod Borrowed
 pub mod Totals

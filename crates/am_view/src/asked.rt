@@ -1,17 +1,18 @@
-//! A clock that is asked of many ids.
-ghost use Rattle.std.specs.Prelude.{◌≡◌};
+//! What is covered, asked of many ids.
+ghost use Rattle.std.specs.Prelude.{◌≡◌, true, None, Some};
+ghost use Rattle.am_types.specs.declared.OpId.{OpId};
 ghost use Rattle.am_types.specs.Views.{id_of};
-ghost use Rattle.am_graph.specs.Clocks.{covers};
+ghost use Rattle.am_view.specs.Seen.{seen_by};
 
 use am_graph::Clock;
 use am_types::{IdRef, same_actor};
 use std::marker::Model;
 
-/// A clock, and what it told of the actor that was asked for last, since the ids of rows have few actors. A contract sees
-/// the clock.
+/// A clock, or that every id is covered, and what the clock told of the actor that was asked for last, since the ids of rows
+/// have few actors. A contract sees the clock, if there is one.
 #[derive(Drop)]
 pub struct Asked<'a> {
-    clock: &'a Clock,
+    clock: Option<&'a Clock>,
     /// The actor that was asked for last.
     actor: &'a [u8],
     /// The counter below which the clock covers the actor's ids.
@@ -19,39 +20,64 @@ pub struct Asked<'a> {
 }
 
 impl<'a> Model for Asked<'a> {
-    ghost use Rattle.std.specs.Prelude.{◌≡◌, List, ℕ};
+    ghost use Rattle.std.specs.Prelude.{ℕ, ◌≡◌, List, Option, IfSome, option_map};
     ghost use Rattle.am_graph.specs.declared.reach.Reach.{Reach};
     ghost use Rattle.am_graph.specs.Clocks.{reach_of};
 
-    ghost Value = { List (List ℕ × Reach) };
+    ghost Value = { Option (List (List ℕ × Reach)) };
 
-    ghost view = { λ a. a.clock.now };
+    ghost view = { λ a. option_map (λ c. c.now) a.clock };
 
-    ghost invariant = { λ a. a.end ≡ (reach_of a.clock.now a.actor.now).end };
+    ghost invariant = { λ a. IfSome a.clock (λ c. a.end ≡ (reach_of c.now a.actor.now).end) };
 }
 
 impl<'a> Asked<'a> {
-    /// The clock, which hasn't been asked yet.
+    /// What the clock covers, which hasn't been asked yet.
     pub fn of(clock: &'a Clock) -> Self
-        ensures { result ≡ clock.now }
+        ensures { result ≡ Some clock.now }
     {
         let actor: &[u8] = &[];
         Asked {
-            clock,
+            clock: Some(clock),
             actor,
             end: clock.end(actor),
         }
     }
 
-    /// Whether the clock covers the id.
+    /// Every id.
+    pub fn everything() -> Self
+        ensures { result ≡ None }
+    {
+        Asked {
+            clock: None,
+            actor: &[],
+            end: 0,
+        }
+    }
+
+    /// Whether it is known that every id is covered.
+    #[inline(always)]
+    pub fn is_everything(&self) -> bool
+        ensures { result ≡ true → (id : OpId) → seen_by self.now id ≡ true }
+    {
+        self.clock.is_none()
+    }
+
+    /// Whether the id is covered.
+    #[inline(always)]
     pub fn covers(&mut self, id: IdRef<'a>) -> bool
         ensures same { self.new ≡ self.old }
-        ensures clock { result ≡ covers self.old (id_of id.entry) }
+        ensures covered { result ≡ seen_by self.old (id_of id.entry) }
     {
-        if !same_actor(id.actor, self.actor) {
-            self.actor = id.actor;
-            self.end = self.clock.end(id.actor);
+        match self.clock {
+            None => true,
+            Some(clock) => {
+                if !same_actor(id.actor, self.actor) {
+                    self.actor = id.actor;
+                    self.end = clock.end(id.actor);
+                }
+                id.counter < self.end
+            }
         }
-        id.counter < self.end
     }
 }

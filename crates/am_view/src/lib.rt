@@ -3,10 +3,13 @@
 
 mod ahead;
 mod asked;
+mod deferred;
 mod laws;
+mod objects;
+mod scan;
 mod shown;
 mod slots;
 mod tally;
 
-pub use laws::{reads_by_rows, walks_rows};
-pub use shown::Shown;
+pub use laws::{heads_reach_all, reads_by_rows, walks_rows};
+pub use shown::{Shown, blank_entry};

@@ -1,5 +1,5 @@
 //! The visible entries at a clock, one after another.
-ghost use Rattle.std.specs.Prelude.{◌≡◌, ◌∷◌, [], List, IfSome, IfNone};
+ghost use Rattle.std.specs.Prelude.{◌≡◌, ◌≤◌, ◌∷◌, [], List, length, IfSome, IfNone, true, false};
 ghost use Rattle.am_types.specs.declared.Hash.{Hash};
 ghost use Rattle.am_types.specs.Ancestors.{ancestors};
 ghost use Rattle.am_types.specs.Members.{Member, changes};
@@ -9,22 +9,40 @@ ghost use Rattle.am_types.specs.Rows as document;
 ghost use Rattle.am_types.specs.ValidSets.{Valid};
 ghost use Rattle.am_types.specs.Views.{entry_of};
 ghost use Rattle.am_graph.specs.Clocks.{covers, IsClockOf};
+ghost use Rattle.am_view.specs.Seen.{everything};
 ghost use Rattle.am_view.specs.Steps.{walk};
 
 use crate::asked::Asked;
-use crate::tally::entry_of;
+use crate::scan::Scan;
 use am_doc::DocRef;
-use am_doccols::RowCursor;
+use am_doccols::SuccCursor;
 use am_graph::Clock;
-use am_types::EntryRef;
+use am_types::{EntryRef, IdRef, KeyRef, ObjRef, ValueRef};
 use std::marker::Model;
+
+/// An entry that says nothing: a place to read entries into.
+pub fn blank_entry<'a>() -> EntryRef<'a> {
+    EntryRef {
+        obj: ObjRef::Root,
+        slot: KeyRef::Head,
+        id: IdRef {
+            counter: 0,
+            actor: &[],
+        },
+        action: 0,
+        value: ValueRef { kind: 0, raw: &[] },
+        total: 0,
+    }
+}
 
 /// The visible entries at a clock, read off the rows of a document one after another. A contract sees those that are left.
 /// It takes no memory, and what it hands out is lent from the document.
 #[derive(Drop)]
 pub struct Shown<'a> {
-    rows: RowCursor<'a>,
+    rows: Scan<'a>,
     clock: Asked<'a>,
+    // The successors of the row that was read last. Their place is used again, so that no cursor over them is moved.
+    succs: SuccCursor<'a>,
 }
 
 impl<'a> Model for Shown<'a> {
@@ -33,10 +51,10 @@ impl<'a> Model for Shown<'a> {
 
     ghost Value = { List Entry };
 
-    ghost use Rattle.am_graph.specs.Clocks.{covers};
+    ghost use Rattle.am_view.specs.Seen.{seen_by};
     ghost use Rattle.am_view.specs.Steps.{walk};
 
-    ghost view = { λ s. walk (covers s.clock) s.rows };
+    ghost view = { λ s. walk (seen_by s.clock) s.rows };
 }
 
 impl<'a> Shown<'a> {
@@ -48,9 +66,45 @@ impl<'a> Shown<'a> {
         ensures replay { (C : List Member) (heads : List Hash) → Valid C → doc.entry.rows ≡ document.rows (all_operations (changes C)) → IsClockOf (ancestors C heads) clock.now → result ≡ replay (all_operations (changes (ancestors C heads))) }
     {
         Shown {
-            rows: doc.rows(),
+            rows: Scan::over(doc.rows()),
             clock: Asked::of(clock),
+            succs: SuccCursor::none(),
         }
+    }
+
+    /// The entries that the document's rows show where every id is covered. Where the rows are those of a valid set, they are
+    /// what all of its operations leave, in document order, with their totals. No clock is asked, and no successors are
+    /// read but those of counters.
+    pub fn whole(doc: DocRef<'a>) -> Self
+        ensures walk { result ≡ walk everything doc.entry.rows }
+        ensures replay { (C : List Member) → Valid C → doc.entry.rows ≡ document.rows (all_operations (changes C)) → result ≡ replay (all_operations (changes C)) }
+    {
+        Shown {
+            rows: Scan::over(doc.rows()),
+            clock: Asked::everything(),
+            succs: SuccCursor::none(),
+        }
+    }
+
+    /// How many rows are left. No more entries are.
+    pub fn most(&self) -> u64
+        ensures { length self.now ≤ result }
+    {
+        self.rows.left()
+    }
+
+    /// Puts the next entry into one that is there, in place of what it had, and tells whether there is one. Else nothing is
+    /// known of what is there. Nothing of an entry is moved, so that this is quicker than `next`.
+    pub fn next_into(&mut self, entry: &mut EntryRef<'a>) -> bool
+        ensures end { result ≡ false → (self.old ≡ []) × (self.new ≡ []) }
+        ensures next { result ≡ true → self.old ≡ entry_of entry.new ∷ self.new }
+    {
+        while self.rows.left() > 0 {
+            if self.rows.next_into(&mut self.clock, &mut self.succs, entry) {
+                return true;
+            }
+        }
+        false
     }
 
     /// The next entry, or None behind the last.
@@ -58,11 +112,11 @@ impl<'a> Shown<'a> {
         ensures end { IfNone result ((self.old ≡ []) × (self.new ≡ [])) }
         ensures next { IfSome result (λ entry. self.old ≡ entry_of entry ∷ self.new) }
     {
-        while let Some(row) = self.rows.next() {
-            if let Some(entry) = entry_of(&mut self.clock, &row, &self.rows) {
-                return Some(entry);
-            }
+        let mut entry = blank_entry();
+        if self.next_into(&mut entry) {
+            Some(entry)
+        } else {
+            None
         }
-        None
     }
 }

@@ -1,27 +1,26 @@
-//! What a row stands at.
-ghost use Rattle.std.specs.Prelude.{◌≡◌, ◌≤◌, ◌^◌, ◌+ℤ◌, length, option_map};
+//! What tells whether a row is shown, and what a counter stands at.
+ghost use Rattle.std.specs.Prelude.{◌≡◌, ◌≤◌, ◌^◌, ◌∷◌, ◌+ℤ◌, List, length, true, false};
 ghost use Rattle.std.specs.List.{list_any};
-ghost use Rattle.am_types.specs.Views.{entry_of};
-ghost use Rattle.am_graph.specs.Clocks.{covers};
-ghost use Rattle.am_doccols.specs.Rows.{row_of};
+ghost use Rattle.am_types.specs.declared.Row.{Row};
+ghost use Rattle.am_types.specs.Views.{value_of};
 ghost use Rattle.am_view.specs.Borrowed.{coming};
 ghost use Rattle.am_view.specs.Reads.{gives_entry, is_counter_row};
-ghost use Rattle.am_view.specs.Steps.{tally, left_of, standing, entry_at};
+ghost use Rattle.am_view.specs.Seen.{seen_by};
+ghost use Rattle.am_view.specs.Steps.{tally, walk};
 ghost use Rattle.am_view.specs.Totals.{IsBounded};
 
 use crate::ahead::Ahead;
 use crate::asked::Asked;
-use crate::slots::slot_of;
-use am_doccols::{RowCursor, RowRef, SuccCursor};
-use am_types::{EntryRef, actions, kinds, slice_known};
-use am_values::amount_of;
+use am_doccols::SuccCursor;
+use am_types::{ValueRef, actions, kinds};
 
-/// Whether one of the successors is covered.
-pub fn is_any_covered<'a>(clock: &mut Asked<'a>, succs: SuccCursor<'a>) -> bool
+/// Whether one of the successors is covered. They are read as far as the first that is.
+#[inline(always)]
+pub fn is_any_covered<'a>(clock: &mut Asked<'a>, succs: &mut SuccCursor<'a>) -> bool
     ensures same { clock.new ≡ clock.old }
-    ensures covered { result ≡ list_any (covers clock.old) succs.entry }
+    ensures covered { result ≡ list_any (seen_by clock.old) succs.old }
+    ensures few { length succs.new ≤ length succs.old }
 {
-    let mut succs = succs;
     while let Some(succ) = succs.next() {
         if clock.covers(succ) {
             return true;
@@ -41,19 +40,17 @@ fn sum(total: i128, more: i128) -> i128
 
 /// The first amount with what the covered successors add, which are sought ahead; None where one of them is no increment
 /// and so removes the counter.
-pub fn tally<'a>(
+pub fn tallied<'a>(
     clock: &mut Asked<'a>,
     first: i128,
-    succs: SuccCursor<'a>,
-    ahead: Ahead<'a>,
+    succs: &mut SuccCursor<'a>,
+    ahead: &mut Ahead<'a>,
 ) -> Option<i128>
     requires bounded { IsBounded 1 first }
-    requires few { length succs ≤ 2 ^ 22 }
+    requires few { length succs.old ≤ 2 ^ 22 }
     ensures same { clock.new ≡ clock.old }
-    ensures total { result ≡ tally (covers clock.old) first succs.entry (coming ahead.entry) }
+    ensures total { result ≡ tally (seen_by clock.old) first succs.old (coming ahead.old) }
 {
-    let mut succs = succs;
-    let mut ahead = ahead;
     let mut total = first;
     while let Some(id) = succs.next() {
         if clock.covers(id) {
@@ -67,12 +64,13 @@ pub fn tally<'a>(
     Some(total)
 }
 
-// Whether the row sets a value or makes an object.
-fn gives_entry(row: &RowRef<'_>) -> bool
-    ensures { result ≡ gives_entry (row_of row.now) }
+/// Whether a row of this action sets a value or makes an object.
+#[inline(always)]
+pub fn gives_entry(action: u8) -> bool
+    ensures { (row : Row) → row.action ≡ action → result ≡ gives_entry row }
 {
     matches!(
-        row.action,
+        action,
         actions::MAKE_MAP
             | actions::SET
             | actions::MAKE_LIST
@@ -81,56 +79,50 @@ fn gives_entry(row: &RowRef<'_>) -> bool
     )
 }
 
-// Whether the row sets a counter.
-fn is_counter(row: &RowRef<'_>) -> bool
-    ensures { result ≡ is_counter_row (row_of row.now) }
+/// Whether a row of this action and value sets a counter.
+#[inline(always)]
+pub fn is_counter(action: u8, value: ValueRef<'_>) -> bool
+    ensures { (row : Row) → row.action ≡ action → row.value ≡ value_of value.entry → result ≡ is_counter_row row }
 {
-    row.action == actions::SET && row.value.kind == kinds::COUNTER
+    action == actions::SET && value.kind == kinds::COUNTER
 }
 
-// What a row stands at that gives an entry, where the rest of the rows stands behind it; None where something removes it.
-// Only for a counter a copy of the cursor looks ahead.
-fn left_of<'a>(clock: &mut Asked<'a>, row: &RowRef<'a>, rest: &RowCursor<'a>) -> Option<i128>
-    requires few { length row.now.succs ≤ 2 ^ 22 }
-    ensures same { clock.new ≡ clock.old }
-    ensures left { result ≡ left_of (covers clock.old) (row_of row.now) rest.now }
+/// Whether nothing is shown of a row of this action and value with so many successors, whatever these are: it gives no
+/// entry, or every id is covered, and so a successor that removed it.
+#[inline(always)]
+pub fn is_hidden(clock: &Asked<'_>, action: u8, value: ValueRef<'_>, count: u64) -> bool
+    ensures hidden { result ≡ true → (row : Row) (rest : List Row) → row.action ≡ action → row.value ≡ value_of value.entry → length row.succs ≡ count → walk (seen_by clock.now) (row ∷ rest) ≡ walk (seen_by clock.now) rest }
+    ensures entry { result ≡ false → (row : Row) → row.action ≡ action → gives_entry row ≡ true }
 {
-    if is_counter(row) {
-        let slot = slot_of(row.insert, row.key, row.id);
-        let ahead = Ahead::over(row.obj, slot, rest.again());
-        slice_known(row.value.raw);
-        tally(clock, amount_of(row.value), row.succs.again(), ahead)
-    } else if is_any_covered(clock, row.succs.again()) {
-        None
-    } else {
-        Some(0)
+    if !gives_entry(action) {
+        return true;
     }
+    if count == 0 {
+        return false;
+    }
+    if !clock.is_everything() {
+        return false;
+    }
+    !is_counter(action, value)
 }
 
-/// The entry of a row, where the rest of the rows stands behind it; None where it isn't shown. Most rows that aren't shown
-/// were removed, so that is asked first.
-pub fn entry_of<'a>(
+/// Whether a covered successor removed a row of this action and value. They are asked one after another. Of a counter this
+/// isn't asked, and its successors stay unread.
+#[inline(always)]
+pub fn is_removed<'a>(
     clock: &mut Asked<'a>,
-    row: &RowRef<'a>,
-    rest: &RowCursor<'a>,
-) -> Option<EntryRef<'a>>
-    requires few { length row.now.succs ≤ 2 ^ 22 }
+    action: u8,
+    value: ValueRef<'a>,
+    succs: &mut SuccCursor<'a>,
+) -> bool
     ensures same { clock.new ≡ clock.old }
-    ensures entry { option_map entry_of result ≡ option_map (entry_at (row_of row.now)) (standing (covers clock.old) (row_of row.now) rest.now) }
+    ensures few { length succs.new ≤ length succs.old }
+    ensures removed { result ≡ true → (row : Row) (rest : List Row) → row.action ≡ action → row.value ≡ value_of value.entry → row.succs ≡ succs.old → walk (seen_by clock.old) (row ∷ rest) ≡ walk (seen_by clock.old) rest }
+    ensures stays { result ≡ false → (row : Row) → row.action ≡ action → row.value ≡ value_of value.entry → row.succs ≡ succs.old → is_counter_row row ≡ false → list_any (seen_by clock.old) row.succs ≡ false }
+    ensures unread { result ≡ false → (row : Row) → row.action ≡ action → row.value ≡ value_of value.entry → is_counter_row row ≡ true → succs.new ≡ succs.old }
 {
-    if !gives_entry(row) {
-        return None;
+    if is_counter(action, value) {
+        return false;
     }
-    let total = left_of(clock, row, rest)?;
-    if !clock.covers(row.id) {
-        return None;
-    }
-    Some(EntryRef {
-        obj: row.obj,
-        slot: slot_of(row.insert, row.key, row.id),
-        id: row.id,
-        action: row.action,
-        value: row.value,
-        total,
-    })
+    is_any_covered(clock, succs)
 }

@@ -1,13 +1,13 @@
 use Rattle.std.proofs.Common.{◌≡◌, ◌+◌, ◌-◌, ◌≤◌, ◌^◌, length}
-use Rattle.am_graph.specs.Clocks.{covers}
 use Rattle.am_view.specs.Borrowed.{coming}
+use Rattle.am_view.specs.Seen.{seen_by}
 use Rattle.am_view.specs.Steps.{tally}
 use Rattle.am_view.specs.Totals.{IsBounded}
-use Rattle.am_view.proofs.tally.tally.Given as goal
+use Rattle.am_view.proofs.tally.tallied.Given as goal
 
 abbrev pub invariant-loop-id : goal.invariant-loop-id
 invariant-loop-id l =
-    (tally (covers l.initial.clock) l.total l.succs (coming l.ahead) ≡ tally (covers l.initial.clock) l.fn.first l.fn.succs (coming l.fn.ahead))
+    (tally (seen_by l.initial.clock) l.total l.succs (coming l.ahead) ≡ tally (seen_by l.initial.clock) l.fn.first l.fn.succs (coming l.fn.ahead))
     × (length l.succs ≤ 2 ^ 22)
     × IsBounded (2 ^ 22 + 1 - length l.succs) l.total
     × (l.clock ≡ l.initial.clock)
