@@ -6,9 +6,9 @@ ghost use Rattle.am_types.specs.Views.{entry_of};
 ghost use Rattle.am_types.specs.EntryOrder.{IsInOrder};
 ghost use Rattle.am_json.specs.Shown.{json_data};
 
+use crate::blocks::Entries;
 use crate::fault::JsonFault;
 use crate::form::Form;
-use crate::lent::Lent;
 use crate::written::written;
 use am_types::{Bytes, EntryRef};
 use std::alloc::{AllocError, Global};
@@ -19,7 +19,7 @@ use std::marker::Model;
 #[derive(Drop)]
 pub struct LentJsonMaker<'a> {
     form: Form,
-    entries: Vec<Lent<'a>>,
+    entries: Entries<'a>,
     failed: bool,
 }
 
@@ -29,9 +29,9 @@ impl<'a> Model for LentJsonMaker<'a> {
 
     ghost Value = { Held };
 
-    ghost view = { λ m. record { form = m.form; entries = m.entries.items; failed = m.failed } };
+    ghost view = { λ m. record { form = m.form; entries = m.entries; failed = m.failed } };
 
-    ghost invariant = { λ m. IsInOrder m.entries.items };
+    ghost invariant = { λ m. IsInOrder m.entries };
 }
 
 impl<'a> LentJsonMaker<'a> {
@@ -41,14 +41,26 @@ impl<'a> LentJsonMaker<'a> {
     {
         LentJsonMaker {
             form,
-            entries: Vec::new(alloc),
+            entries: Entries::new(alloc),
             failed: false,
         }
+    }
+
+    /// A maker without entries, with room for so many. Of the room only what entries come to fill is touched.
+    pub fn with_room(alloc: Global, form: Form, count: usize) -> Result<Self, AllocError>
+        ensures { IfOk result (λ maker. maker ≡ record { form = form; entries = []; failed = false }) }
+    {
+        Ok(LentJsonMaker {
+            form,
+            entries: Entries::with_room(alloc, count)?,
+            failed: false,
+        })
     }
 
     /// Adds an entry behind the others. With the entries before it must be in a document's order: the root's first, then
     /// those of the objects by ascending id, the names of one object by ascending bytes, those of one slot together by
     /// ascending id.
+    #[inline(always)]
     pub fn push(&mut self, entry: EntryRef<'a>) -> Result<(), AllocError>
         requires { IsInOrder (self.old.entries ++ entry_of entry ∷ []) }
         ensures ok { OnOk result (self.new ≡ record { form = self.old.form; entries = self.old.entries ++ entry_of entry.entry ∷ []; failed = false }) }
@@ -58,10 +70,13 @@ impl<'a> LentJsonMaker<'a> {
         if self.failed {
             return Err(AllocError);
         }
-        self.failed = true;
-        self.entries.push(Lent::of(entry))?;
-        self.failed = false;
-        Ok(())
+        match self.entries.push(entry) {
+            Ok(()) => Ok(()),
+            Err(error) => {
+                self.failed = true;
+                Err(error)
+            }
+        }
     }
 
     /// The text: the compact JSON (RFC 8259) of what the entries show, written straight into one buffer. It is refused

@@ -32,7 +32,7 @@ nests-returns-then-shows_array t c =
     let es = c.args.entries.now in
     let text : is_string c.args.form c.args.action ≡ false = sym c.shows_string.ensures ∙ c.if-shows_string.false in
     let list : is_array c.args.action ≡ true = sym c.shows_array.ensures ∙ c.if-shows_array.true in
-    let e = ap depth (shows_array c.args.form c.args.levels es o c.args.action c.entries_of-own.result.now c.requires c.entries_of-own.ensures c.if-levels-eq0.false text list) in
+    let e = ap depth (shows_array c.args.form c.args.levels es o c.args.action c.inside-own.result.now c.requires c.inside-own.ensures c.if-levels-eq0.false text list) in
     (λ h. let small = c.items_nest.ensures.0 h in omega (arith, e, small, c.if-limit-eq0.false), λ h. c.items_nest.ensures.1 (omega (arith, e, h)))
 
 pub nests-returns : goal.nests-returns
@@ -41,5 +41,5 @@ nests-returns t c =
     let es = c.args.entries.now in
     let text : is_string c.args.form c.args.action ≡ false = sym c.shows_string.ensures ∙ c.if-shows_string.false in
     let list : is_array c.args.action ≡ false = sym c.shows_array.ensures ∙ c.if-shows_array.false in
-    let e = ap depth (shows_object c.args.form c.args.levels es o c.args.action c.entries_of-own.result.now c.requires c.entries_of-own.ensures c.if-levels-eq0.false text list) in
+    let e = ap depth (shows_object c.args.form c.args.levels es o c.args.action c.inside-own.result.now c.requires c.inside-own.ensures c.if-levels-eq0.false text list) in
     (λ h. let small = c.members_nest.ensures.0 h in omega (arith, e, small, c.if-limit-eq0.false), λ h. c.members_nest.ensures.1 (omega (arith, e, h)))
