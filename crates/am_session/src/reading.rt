@@ -1,7 +1,7 @@
 //! Printing what is visible, read off the rows of the store's document.
-ghost use Rattle.std.specs.Prelude.{◌≡◌, ◌++◌, ◌∷◌, [], All, IfErr, IfOk, OnOk, Some, find, not, true};
+ghost use Rattle.std.specs.Prelude.{◌≡◌, ◌++◌, ◌∷◌, [], All, IfErr, IfOk, OnOk, Some, find, not, true, false};
 ghost use Rattle.am_types.specs.Ancestors.{ancestors};
-ghost use Rattle.am_types.specs.Members.{holds};
+ghost use Rattle.am_types.specs.Members.{heads, holds};
 ghost use Rattle.am_types.specs.EntryOrder.{IsInOrder};
 ghost use Rattle.am_graph.specs.Clocks.{IsClockOf};
 ghost use Rattle.am_graph.specs.Graphs.{MatchFault};
@@ -16,7 +16,7 @@ use am_json::{Form, JsonFault, LentJsonMaker, order_front};
 use am_replay::entries_are_in_order;
 use am_store::Store;
 use am_types::{Bytes, Hash};
-use am_view::Shown;
+use am_view::{Shown, blank_entry, heads_reach_all};
 use std::alloc::{AllocError, Global};
 
 // A text on a line of its own.
@@ -40,6 +40,17 @@ pub fn finished(alloc: Global, maker: LentJsonMaker<'_>) -> Result<Bytes, AllocE
     }
 }
 
+// A maker without entries. There is room for as many as may come, if there is memory for that; else room is made as they
+// come.
+fn maker_for<'a>(alloc: Global, form: Form, shown: &Shown<'a>) -> LentJsonMaker<'a>
+    ensures { result ≡ record { form = form; entries = []; failed = false } }
+{
+    match LentJsonMaker::with_room(alloc, form, shown.most() as usize) {
+        Ok(maker) => maker,
+        Err(_) => LentJsonMaker::new(alloc, form),
+    }
+}
+
 // The entries that are handed out, pushed as they come.
 fn pushed<'a>(
     alloc: Global,
@@ -51,8 +62,9 @@ fn pushed<'a>(
     ensures entries { IfOk result (λ maker. maker.entries ≡ shown.old) }
 {
     order_front();
-    let mut maker = LentJsonMaker::new(alloc, form);
-    while let Some(entry) = shown.next() {
+    let mut maker = maker_for(alloc, form, shown);
+    let mut entry = blank_entry();
+    while shown.next_into(&mut entry) {
         maker.push(entry)?;
     }
     Ok(maker)
@@ -78,13 +90,8 @@ fn clock_at(alloc: Global, hashes: &[Hash], store: &Store) -> Result<Clock, Cloc
     store.graph().clock(alloc, hashes)
 }
 
-/// What is visible at these hashes. Of the changes nothing is decoded, and no entry is copied.
-pub fn read_at(
-    alloc: Global,
-    form: Form,
-    hashes: &[Hash],
-    store: &Store,
-) -> Result<Bytes, AllocError>
+// What is visible at these hashes. Of the changes nothing is decoded, and no entry is copied.
+fn read_at(alloc: Global, form: Form, hashes: &[Hash], store: &Store) -> Result<Bytes, AllocError>
     ensures { IfOk result (λ reply. reply ≡ reading_at form hashes.now store.now.closed) }
 {
     part_is_valid();
@@ -95,4 +102,32 @@ pub fn read_at(
         Err(ClockFault::UnknownHead(hash)) => unknown(alloc, &hash),
         Err(ClockFault::NoMemory) => Err(AllocError),
     }
+}
+
+/// What is visible at the heads of the closed set. There every id is covered, so that no clock is asked.
+pub fn read_at_heads(alloc: Global, form: Form, store: &Store) -> Result<Bytes, AllocError>
+    ensures { IfOk result (λ reply. reply ≡ reading_at form (heads store.now.closed) store.now.closed) }
+{
+    part_is_valid();
+    entries_are_in_order();
+    heads_reach_all();
+    let _graph = store.graph();
+    print(alloc, form, Shown::whole(store.doc()))
+}
+
+/// What is visible at these hashes, which may be known to be the heads of the closed set.
+pub fn read(
+    alloc: Global,
+    form: Form,
+    hashes: &[Hash],
+    are_heads: bool,
+    store: &Store,
+) -> Result<Bytes, AllocError>
+    requires { are_heads ≡ true → hashes.now ≡ heads store.now.closed }
+    ensures { IfOk result (λ reply. reply ≡ reading_at form hashes.now store.now.closed) }
+{
+    if are_heads {
+        return read_at_heads(alloc, form, store);
+    }
+    read_at(alloc, form, hashes, store)
 }

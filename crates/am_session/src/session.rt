@@ -1,5 +1,5 @@
 //! What stands from command to command.
-ghost use Rattle.std.specs.Prelude.{◌≡◌, None, IfOk, IfErr, OnOk, OnErr, IfSome, List, length};
+ghost use Rattle.std.specs.Prelude.{◌≡◌, None, IfOk, IfErr, OnOk, OnErr, IfSome, List, length, true};
 ghost use Rattle.am_types.specs.declared.Change.{Change};
 ghost use Rattle.am_types.specs.Documents.{table};
 ghost use Rattle.am_types.specs.Members.{heads, hashes};
@@ -20,7 +20,7 @@ ghost use Rattle.am_session.specs.Views.{each_once, view_at, ShowsAt, Shows, IsT
 
 use crate::audit::audit;
 use crate::history::list_history;
-use crate::reading::read_at;
+use crate::reading::read;
 use crate::replies::refuses;
 use crate::views::view_at;
 use am_cache::{Cache, View};
@@ -58,9 +58,11 @@ impl Session {
     pub fn new(alloc: Global) -> Result<Session, AllocError>
         ensures { IfOk result (λ session. session ≡ nothing_held) }
     {
+        let views = Cache::new(alloc)?;
+        let store = StagedStore::new(alloc)?;
         Ok(Session {
-            store: StagedStore::new(alloc)?,
-            views: Cache::new(alloc)?,
+            store,
+            views,
             heads: None,
         })
     }
@@ -195,14 +197,21 @@ impl Session {
         self.views.put(view, text)
     }
 
-    // What is printed at these hashes, where no text is kept for them.
-    fn print(&mut self, alloc: Global, view: View, hashes: &[Hash]) -> Result<Bytes, AllocError>
+    // What is printed at these hashes, where no text is kept for them. They may be known to be the heads of the closed set.
+    fn print(
+        &mut self,
+        alloc: Global,
+        view: View,
+        hashes: &[Hash],
+        are_heads: bool,
+    ) -> Result<Bytes, AllocError>
         requires heads { view.heads ≡ each_once hashes.now }
+        requires known { are_heads ≡ true → hashes.now ≡ heads self.now.kept.closed }
         requires none { text_of view self.now.views ≡ None }
         ensures { IfOk result (λ reply. ShowsAt view.form hashes.now self.old reply self.new) }
     {
         self.store.settle(alloc)?;
-        let reply = read_at(alloc, view.form, hashes, self.store.store())?;
+        let reply = read(alloc, view.form, hashes, are_heads, self.store.store())?;
         if refuses(reply.as_slice()) {
             return Ok(reply);
         }
@@ -211,14 +220,21 @@ impl Session {
         Ok(reply)
     }
 
-    // What is printed at these hashes. A text that is kept is used again.
-    fn show_at(&mut self, alloc: Global, form: Form, hashes: &[Hash]) -> Result<Bytes, AllocError>
+    // What is printed at these hashes, which may be known to be the heads of the closed set. A text that is kept is used again.
+    fn show_at(
+        &mut self,
+        alloc: Global,
+        form: Form,
+        hashes: &[Hash],
+        are_heads: bool,
+    ) -> Result<Bytes, AllocError>
+        requires { are_heads ≡ true → hashes.now ≡ heads self.now.kept.closed }
         ensures { IfOk result (λ reply. ShowsAt form hashes.now self.old reply self.new) }
     {
         let view = view_at(alloc, form, hashes)?;
         match self.look(alloc, &view)? {
             Some(text) => Ok(text),
-            None => self.print(alloc, view, hashes),
+            None => self.print(alloc, view, hashes, are_heads),
         }
     }
 
@@ -230,7 +246,7 @@ impl Session {
             Some(heads) => heads,
             None => self.store.graph().heads(alloc)?,
         };
-        let reply = self.show_at(alloc, form, heads.as_slice())?;
+        let reply = self.show_at(alloc, form, heads.as_slice(), true)?;
         self.heads = Some(heads);
         Ok(reply)
     }
@@ -248,6 +264,6 @@ impl Session {
         if named.is_empty() {
             return self.show_at_heads(alloc, form);
         }
-        self.show_at(alloc, form, named)
+        self.show_at(alloc, form, named, false)
     }
 }

@@ -7,14 +7,14 @@ use Rattle.am_session.proofs.reading.pushed.Goals as goal
 
 pub push-requires : goal.push-requires
 push-requires c =
-    more_in_order c.loop-entry.maker.entries c.loop-entry.shown c.next.new.self (entry_of c.in-Some.entry) c.in-Some.ensures.next c.order_front.ensures (subst IsInOrder (sym c.loop-entry.invariant.2) c.requires)
+    more_in_order c.loop-entry.maker.entries c.loop-entry.shown c.next_into.new.self (entry_of c.next_into.new.entry) (c.next_into.ensures.next c.loop-entry-test.true) c.order_front.ensures (subst IsInOrder (sym c.loop-entry.invariant.2) c.requires)
 
 pub loop-entry-preserved : goal.loop-entry-preserved
 loop-entry-preserved c =
     let was = c.loop-entry.invariant in
     let now = c.in_ok-push.ensures.ok in
-    let whole = more_pushed c.loop-entry.maker.entries c.loop-entry.shown c.next.new.self (entry_of c.in-Some.entry) c.in-Some.ensures.next in (
+    let whole = more_pushed c.loop-entry.maker.entries c.loop-entry.shown c.next_into.new.self (entry_of c.next_into.new.entry) (c.next_into.ensures.next c.loop-entry-test.true) in (
       ap (λ (h : Held). h.form) now ∙ was.0,
       ap (λ (h : Held). h.failed) now,
-      ap (λ (h : Held). h.entries ++ c.next.new.self) now ∙ whole ∙ was.2,
+      ap (λ (h : Held). h.entries ++ c.next_into.new.self) now ∙ whole ∙ was.2,
     )
