@@ -1,5 +1,5 @@
 //! Outside values for column metadata: a whole change's columns, refusals in their order, lists of actors.
-use am_colmeta::{ActorList, ColumnFault, ColumnList, ColumnWriter, Columns};
+use am_colmeta::{ActorList, ColumnFault, ColumnList, ColumnWriter, Columns, push_metadata};
 use std::alloc::AllocError;
 
 // The metadata and the columns of a change that sets one key, with one more column of numbers.
@@ -112,6 +112,28 @@ fn writes_the_columns_of_a_change(rt: HostRuntime) -> Result<(), AllocError> {
     let (metadata, body) = writer.finish()?;
     assert!(rt; metadata.as_slice() == &METADATA[..]);
     assert!(rt; body.as_slice() == &BODY[..]);
+    Ok(())
+}
+
+// The columns of that change, two of them without bytes, by their lengths.
+#[test]
+fn writes_metadata_by_lengths(rt: HostRuntime) -> Result<(), AllocError> {
+    let mut metadata = Vec::new(rt.alloc());
+    metadata.push(0xee)?;
+    let columns: [(u64, u64); 9] = [
+        (0x15, 3),
+        (0x25, 0),
+        (0x34, 1),
+        (0x42, 2),
+        (0x56, 2),
+        (0x57, 1),
+        (0x70, 2),
+        (0xa5, 0),
+        (0xb2, 2),
+    ];
+    push_metadata(&mut metadata, &columns)?;
+    assert!(rt; metadata.as_slice().starts_with(&[0xee]));
+    assert!(rt; metadata.as_slice().ends_with(&METADATA) && metadata.len() == 17);
     Ok(())
 }
 

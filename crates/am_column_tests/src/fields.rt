@@ -64,6 +64,12 @@ fn reads_objects(rt: HostRuntime) {
         "three objects",
     );
     assert!(rt; matches!(objects.next(), ObjRef::Root));
+    let (like, count) = objects.like();
+    assert!(rt; count <= objects.left() && objects.left() == 2);
+    match like {
+        ObjRef::Made(id) => assert!(rt; id.counter == 1),
+        ObjRef::Root => assert!(rt; false, "an object that was made"),
+    }
     match objects.again().next() {
         ObjRef::Made(id) => assert!(rt; id.counter == 1 && id.actor == &ACTOR[..]),
         ObjRef::Root => assert!(rt; false, "an object that was made"),
@@ -133,10 +139,15 @@ fn reads_groups(rt: HostRuntime) {
         &actors,
         2,
     ).expect(&rt, "two groups");
+    assert!(rt; groups.left() == 2 && groups.lengths().next() == 0);
     assert!(rt; groups.next().next().is_none());
+    assert!(rt; groups.lengths().next() == 2);
     let mut last = groups.again().next();
     assert!(rt; last.again().next().is_some() && last.next().is_some() && last.next().is_some());
     assert!(rt; last.next().is_none());
+    let mut cleared = groups.next();
+    cleared.clear();
+    assert!(rt; cleared.next().is_none());
 }
 
 #[test]

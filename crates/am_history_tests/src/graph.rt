@@ -1,5 +1,5 @@
-//! Tests of am_graph: a small graph with a fork and a merge, and a long one of two branches. A function that has a graph
-//! of its own only lends it, since each of its ways out is proved to drop it well.
+//! Tests of am_graph: a small graph with a fork and a merge, a long one of two branches, and a chain of which one change
+//! merges many. A function that has a graph of its own only lends it, since each of its ways out is proved to drop it well.
 ghost use Rattle.std.specs.Prelude.{◌↔◌, IsTrue};
 ghost use Rattle.am_types.specs.Order.{hash_cmp, Ascends};
 
@@ -73,6 +73,22 @@ const COVERED: &[(u64, &[u8], (bool, u64, u64))] = &[
 const LAST: Sample<'static> = (200, AA, 101, 101, 1, &[198, 199]);
 
 const LAST_HEAD: &[Hash] = &[Hash([200; 32])];
+
+/// A change on every fourth change of a chain of 40.
+const MERGING: Sample<'static> = (100, BB, 1, 38, 1, &[4, 8, 12, 16, 20, 24, 28, 32, 36]);
+
+/// The first change of a second chain.
+const BEHIND: Sample<'static> = (101, CC, 1, 39, 1, &[100]);
+
+/// The last seqs of three actors at a change: at the end of the chain, at the change that merges many, and at changes
+/// of the second chain, each of which is on that one too.
+const REACHED: &[(u8, [u64; 3])] = &[
+    (39, [40, 0, 0]),
+    (100, [37, 1, 0]),
+    (101, [37, 1, 1]),
+    (104, [37, 1, 4]),
+    (139, [37, 1, 39]),
+];
 
 fn hash(byte: u8) -> Hash {
     Hash([byte; 32])
@@ -274,4 +290,52 @@ fn merged(alloc: Global, graph: &mut Graph) -> Result<(u64, u64), Fail> {
     add(graph, alloc, LAST)??;
     let clock = graph.clock(alloc, LAST_HEAD)?;
     Ok((clock.last_seq(AA), clock.last_seq(BB)))
+}
+
+/// Adds a change of the chain.
+fn add_link(graph: &mut Graph, alloc: Global, byte: u8) -> Result<(), Fail> {
+    let turn = u16::from(byte) + 1;
+    let below = [byte.saturating_sub(1)];
+    let deps = if byte == 0 { &[] } else { &below[..] };
+    add(graph, alloc, (byte, AA, turn, turn, 1, deps))??;
+    Ok(())
+}
+
+/// Adds a change of the second chain, but for its first.
+fn add_behind(graph: &mut Graph, alloc: Global, byte: u8) -> Result<(), Fail> {
+    let turn = u16::from(byte.saturating_sub(100));
+    let below = [100, byte.saturating_sub(1)];
+    add(graph, alloc, (byte, CC, turn, 38 + turn, 1, &below))??;
+    Ok(())
+}
+
+fn add_chains(graph: &mut Graph, alloc: Global) -> Result<(), Fail> {
+    for byte in 0..40 {
+        add_link(graph, alloc, byte)?;
+    }
+    add_all(graph, alloc, &[MERGING, BEHIND])?;
+    for byte in 102..140 {
+        add_behind(graph, alloc, byte)?;
+    }
+    Ok(())
+}
+
+#[test]
+fn merges_many(rt: HostRuntime) -> Result<(), Fail> {
+    let mut graph = Graph::new(rt.alloc());
+    add_chains(&mut graph, rt.alloc())?;
+    tells_last_seqs(&rt, rt.alloc(), &graph)
+}
+
+fn tells_last_seqs(rt: &impl Abort, alloc: Global, graph: &Graph) -> Result<(), Fail> {
+    for (head, answer) in REACHED {
+        assert_eq!(rt; last_seqs(alloc, graph, *head)?, *answer);
+    }
+    Ok(())
+}
+
+/// The last seqs of the three actors at a change.
+fn last_seqs(alloc: Global, graph: &Graph, byte: u8) -> Result<[u64; 3], Fail> {
+    let clock = graph.clock(alloc, &[hash(byte)])?;
+    Ok([clock.last_seq(AA), clock.last_seq(BB), clock.last_seq(CC)])
 }

@@ -4,7 +4,7 @@
 use am_doc::DocRef;
 use am_graph::{Clock, Graph};
 use am_types::{ActorId, EntryRef, Hash};
-use am_view::Shown;
+use am_view::{Shown, blank_entry};
 use std::alloc::Global;
 use std::process::Abort;
 use std::test::Fail;
@@ -73,6 +73,25 @@ const VIEWS: [(&[u8], &[Expected]); 6] = [
 fn is_entry(entry: &EntryRef<'_>, expected: &Expected) -> bool {
     let (counter, actor, total) = *expected;
     entry.id.counter == counter && entry.id.actor == &[actor][..] && entry.total == total
+}
+
+// Whether the contents of a document show just these where every id is covered.
+fn shows_whole(contents: &[u8], expected: &[Expected]) -> bool {
+    let Ok(doc) = DocRef::read(contents) else {
+        return false;
+    };
+    let rows = doc.rows().left();
+    let mut shown = Shown::whole(doc);
+    if shown.most() != rows {
+        return false;
+    }
+    let mut entry = blank_entry();
+    for i in 0..expected.len() {
+        if !shown.next_into(&mut entry) || !is_entry(&entry, &expected[i]) {
+            return false;
+        }
+    }
+    !shown.next_into(&mut entry)
 }
 
 // Whether the contents of a document show just these at the clock.
@@ -147,4 +166,9 @@ fn reads(rt: &impl Abort, alloc: Global, graph: &Graph) -> Result<(), Fail> {
         assert!(rt; shows(&DOCUMENT, &clock, expected));
     }
     Ok(())
+}
+
+#[test]
+fn reads_all(rt: HostRuntime) {
+    assert!(rt; shows_whole(&DOCUMENT, VIEWS[VIEWS.len() - 1].1));
 }
