@@ -75,16 +75,8 @@ fn is_entry(entry: &EntryRef<'_>, expected: &Expected) -> bool {
     entry.id.counter == counter && entry.id.actor == &[actor][..] && entry.total == total
 }
 
-// Whether the contents of a document show just these where every id is covered.
-fn shows_whole(contents: &[u8], expected: &[Expected]) -> bool {
-    let Ok(doc) = DocRef::read(contents) else {
-        return false;
-    };
-    let rows = doc.rows().left();
-    let mut shown = Shown::whole(doc);
-    if shown.most() != rows {
-        return false;
-    }
+// Whether just these entries are left, put into one that is there.
+fn are_put<'a>(shown: &mut Shown<'a>, expected: &[Expected]) -> bool {
     let mut entry = blank_entry();
     for i in 0..expected.len() {
         if !shown.next_into(&mut entry) || !is_entry(&entry, &expected[i]) {
@@ -94,12 +86,8 @@ fn shows_whole(contents: &[u8], expected: &[Expected]) -> bool {
     !shown.next_into(&mut entry)
 }
 
-// Whether the contents of a document show just these at the clock.
-fn shows<'a>(contents: &'a [u8], clock: &'a Clock, expected: &[Expected]) -> bool {
-    let Ok(doc) = DocRef::read(contents) else {
-        return false;
-    };
-    let mut shown = Shown::over(doc, clock);
+// The same, handed out.
+fn are_handed_out(shown: &mut Shown<'_>, expected: &[Expected]) -> bool {
     for i in 0..expected.len() {
         match shown.next() {
             Some(entry) => {
@@ -111,6 +99,45 @@ fn shows<'a>(contents: &'a [u8], clock: &'a Clock, expected: &[Expected]) -> boo
         }
     }
     shown.next().is_none()
+}
+
+// Whether just these entries are left of so many rows. The walk stands in a box, which is let go in one step.
+fn is_whole(
+    alloc: Global,
+    shown: Shown<'_>,
+    rows: u64,
+    expected: &[Expected],
+) -> Result<bool, Fail> {
+    let mut boxed = Box::new(alloc, shown)?;
+    Ok(boxed.most() == rows && are_put(&mut boxed, expected))
+}
+
+// Whether just these entries are left at a clock.
+fn is_part(alloc: Global, shown: Shown<'_>, expected: &[Expected]) -> Result<bool, Fail> {
+    let mut boxed = Box::new(alloc, shown)?;
+    Ok(are_handed_out(&mut boxed, expected))
+}
+
+// Whether the contents of a document show just these where every id is covered.
+fn shows_whole(alloc: Global, contents: &[u8], expected: &[Expected]) -> Result<bool, Fail> {
+    let Ok(doc) = DocRef::read(contents) else {
+        return Ok(false);
+    };
+    let rows = doc.rows().left();
+    is_whole(alloc, Shown::whole(doc), rows, expected)
+}
+
+// Whether the contents of a document show just these at the clock.
+fn shows<'a>(
+    alloc: Global,
+    contents: &'a [u8],
+    clock: &'a Clock,
+    expected: &[Expected],
+) -> Result<bool, Fail> {
+    let Ok(doc) = DocRef::read(contents) else {
+        return Ok(false);
+    };
+    is_part(alloc, Shown::over(doc, clock), expected)
 }
 
 fn hash(byte: u8) -> Hash {
@@ -163,12 +190,13 @@ fn reads(rt: &impl Abort, alloc: Global, graph: &Graph) -> Result<(), Fail> {
     for i in 0..VIEWS.len() {
         let (heads, expected) = VIEWS[i];
         let clock = clock_at(alloc, graph, heads)?;
-        assert!(rt; shows(&DOCUMENT, &clock, expected));
+        assert!(rt; shows(alloc, &DOCUMENT, &clock, expected)?);
     }
     Ok(())
 }
 
 #[test]
-fn reads_all(rt: HostRuntime) {
-    assert!(rt; shows_whole(&DOCUMENT, VIEWS[VIEWS.len() - 1].1));
+fn reads_all(rt: HostRuntime) -> Result<(), Fail> {
+    assert!(rt; shows_whole(rt.alloc(), &DOCUMENT, VIEWS[VIEWS.len() - 1].1)?);
+    Ok(())
 }
