@@ -1,5 +1,5 @@
 //! Spellings that the standards give as examples, and refusals of bytes that spell nothing in the shortest way.
-use am_leb::{LebFault, push_i, push_u, read_i, read_u};
+use am_leb::{LebFault, push_i, push_u, read_i, read_u, signed_byte, unsigned_byte};
 use std::test::Fail;
 
 #[test]
@@ -38,6 +38,27 @@ fn spells_unsigned_numbers(rt: HostRuntime) -> Result<(), Fail> {
         assert!(rt; read_u(&out) == Ok((number, spelling.len())), "at {number}");
     }
     Ok(())
+}
+
+#[test]
+fn spells_in_one_byte(rt: HostRuntime) {
+    for (number, byte) in [
+        (0, Some(0)),
+        (127, Some(0x7f)),
+        (128, None),
+        (u64::MAX, None),
+    ] {
+        assert!(rt; unsigned_byte(number) == byte, "at {number}");
+    }
+    for (number, byte) in [
+        (63, Some(0x3f)),
+        (64, None),
+        (-1, Some(0x7f)),
+        (-64, Some(0x40)),
+        (-65, None),
+    ] {
+        assert!(rt; signed_byte(number) == byte, "at {number}");
+    }
 }
 
 #[test]

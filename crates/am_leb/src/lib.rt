@@ -7,5 +7,5 @@ mod spelling;
 mod unsigned;
 
 pub use fault::LebFault;
-pub use signed::{one_signed_spelling, push_i, read_i};
-pub use unsigned::{completed, one_spelling, push_u, read_u};
+pub use signed::{one_signed_spelling, push_i, read_i, signed_byte};
+pub use unsigned::{completed, one_spelling, push_u, read_u, unsigned_byte};

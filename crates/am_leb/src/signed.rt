@@ -1,5 +1,5 @@
 //! Signed numbers. A number is its sign and its magnitude: n, or -1 - n where it is negative.
-ghost use Rattle.std.specs.Prelude.{◌≡◌, ◌<◌, ◌≤◌, ◌^◌, ◌++◌, ◌↔◌, ◌⊎◌, ℕ, ℤ, pos, List, length, take, All, IfOk, OnOk, OnErr, FitsSigned};
+ghost use Rattle.std.specs.Prelude.{◌≡◌, ◌<◌, ◌≤◌, ◌^◌, ◌++◌, ◌↔◌, ◌⊎◌, ◌∷◌, [], ◌<ℤ◌, ◌≤ℤ◌, neg_ℤ, ℕ, ℤ, pos, List, length, take, All, IfNone, IfOk, IfSome, OnOk, OnErr, FitsSigned};
 ghost use Rattle.std.specs.Int.{w64};
 ghost use Rattle.am_leb.specs.Leb.{leb, signed_value, ends_negative, seven_bits, IsLeb, BeginsWith};
 ghost use Rattle.am_leb.specs.Reading.{first_signed, digit, magnitude, from_magnitude, low_value};
@@ -171,6 +171,31 @@ pub fn push_i(out: &mut Vec<u8>, n: i64) -> Result<(), AllocError>
         push_magnitude(out, true, (-1 - n) as u64)
     } else {
         push_magnitude(out, false, n as u64)
+    }
+}
+
+fn magnitude_byte(negative: bool, magnitude: u64) -> Option<u8>
+    requires { magnitude < 2 ^ 63 }
+    ensures byte { IfSome result (λ byte. leb (from_magnitude negative magnitude) ≡ byte ∷ []) }
+    ensures longer { IfNone result (64 ≤ magnitude) }
+{
+    if magnitude < 64 {
+        Some(bits_of(negative, magnitude as u8))
+    } else {
+        None
+    }
+}
+
+/// The byte that spells a signed number alone, if one does.
+#[inline(always)]
+pub fn signed_byte(n: i64) -> Option<u8>
+    ensures byte { IfSome result (λ byte. leb n ≡ byte ∷ []) }
+    ensures longer { IfNone result ((n <ℤ neg_ℤ (pos 64)) ⊎ (pos 64 ≤ℤ n)) }
+{
+    if n < 0 {
+        magnitude_byte(true, (-1 - n) as u64)
+    } else {
+        magnitude_byte(false, n as u64)
     }
 }
 

@@ -1,5 +1,5 @@
 //! Unsigned numbers.
-ghost use Rattle.std.specs.Prelude.{◌≡◌, ◌<◌, ◌≤◌, ◌^◌, ◌++◌, ◌∷◌, [], ◌↔◌, ◌⊎◌, ℕ, List, length, take, All, IfOk, OnOk, OnErr};
+ghost use Rattle.std.specs.Prelude.{◌≡◌, ◌<◌, ◌≤◌, ◌^◌, ◌++◌, ◌∷◌, [], ◌↔◌, ◌⊎◌, ℕ, List, length, take, All, IfNone, IfOk, IfSome, OnOk, OnErr};
 ghost use Rattle.am_leb.specs.Leb.{uleb, unsigned_value, IsHigh, IsUleb, BeginsWith};
 ghost use Rattle.am_leb.specs.Reading.{first_unsigned};
 
@@ -115,6 +115,15 @@ pub fn push_u(out: &mut Vec<u8>, n: u64) -> Result<(), AllocError>
         return Ok(());
     }
     push_longer(out, n)
+}
+
+/// The byte that spells a number alone, if one does.
+#[inline(always)]
+pub fn unsigned_byte(n: u64) -> Option<u8>
+    ensures byte { IfSome result (λ byte. uleb n ≡ byte ∷ []) }
+    ensures longer { IfNone result (128 ≤ n) }
+{
+    if n < 128 { Some(n as u8) } else { None }
 }
 
 /// Each number has exactly one shortest spelling.
