@@ -20,6 +20,7 @@ pub mod Elements
 pub mod Places
 pub mod Replay
 pub mod EntryOrder
+pub mod Letters
 pub mod Rows
 pub mod Clocks
 pub mod Canonical

@@ -1,6 +1,7 @@
 //! Borrowed forms of the plain data.
-ghost use Rattle.std.specs.Prelude.{◌≡◌, ◌<◌, length, slice_get, Some};
+ghost use Rattle.std.specs.Prelude.{◌≡◌, ◌<◌, [], length, pos, slice_get, Some};
 ghost use Rattle.am_types.specs.Order.{id_cmp};
+ghost use Rattle.am_types.specs.Records.{Root, Head};
 ghost use Rattle.am_types.specs.Views.{id_of, object_of, key_of, value_of, entry_of};
 
 use crate::byte_strings::compare_actors;
@@ -110,6 +111,25 @@ impl Entry {
             action: self.action,
             value: self.value.lend(),
             total: self.total,
+        }
+    }
+}
+
+impl<'a> EntryRef<'a> {
+    /// An entry that says nothing: a place to put entries into.
+    pub fn blank() -> Self
+        ensures { entry_of result ≡ record { obj = Root; slot = Head; id = record { counter = 0; actor = [] }; action = 0; value = record { kind = 0; raw = [] }; total = pos 0 } }
+    {
+        EntryRef {
+            obj: ObjRef::Root,
+            slot: KeyRef::Head,
+            id: IdRef {
+                counter: 0,
+                actor: &[],
+            },
+            action: 0,
+            value: ValueRef { kind: 0, raw: &[] },
+            total: 0,
         }
     }
 }
