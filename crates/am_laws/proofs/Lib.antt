@@ -37,3 +37,4 @@ pub mod Sums
 pub mod TableLaws
 pub mod Climbing
 pub mod ActorLaws
+pub mod Whole

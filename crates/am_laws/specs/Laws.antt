@@ -1,5 +1,5 @@
 -- Laws over the definitions. Each is the contract of a function of the same name, which does nothing.
-use Rattle.std.specs.Prelude.{ℕ, ℤ, ◌+◌, ◌<◌, ◌^◌, ◌≡◌, ◌≢◌, ◌↔◌, false, not, List, [], ◌++◌, filter, map, take, slice_get, Some, None, All, Contains, IsTrue, IsSorted, IsPermutation, FitsSigned, Bool, ⊤}
+use Rattle.std.specs.Prelude.{ℕ, ℤ, ◌+◌, ◌<◌, ◌^◌, ◌≡◌, ◌≢◌, ◌↔◌, true, false, not, List, [], ◌++◌, filter, map, take, slice_get, Some, None, All, Contains, IsTrue, IsSorted, IsPermutation, FitsSigned, Bool, ⊤}
 use Rattle.std.specs.Option.{option_map_or}
 use Rattle.std.specs.Int.{w64}
 use Rattle.std.specs.Cmp.{IsTotalOrder}
@@ -224,6 +224,10 @@ AncestorsAreRead = (C : List Member) → Valid C → (hs : List Hash) → ReadsO
 -- what is visible at members of a valid set is the same in every valid set that has all its members
 abbrev pub ViewsStay : Type 0
 ViewsStay = (C D : List Member) (hs : List Hash) → Valid C → Valid D → All (Contains D) C → All (λ h. IsTrue (holds C h)) hs → SeesAlike C D hs
+
+-- each member of a valid set is an ancestor of its heads, and the heads are held
+abbrev pub HeadsReachAll : Type 0
+HeadsReachAll = (C : List Member) → Valid C → (ancestors C (heads C) ≡ C) × All (λ h. holds C h ≡ true) (heads C)
 
 -- the ancestors of members of a valid set are listed alike when other members are listed behind them
 abbrev pub AncestorsStay : Type 0

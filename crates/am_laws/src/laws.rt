@@ -1,6 +1,6 @@
 //! Laws over the definitions. Each function does nothing; its contract is the law.
 ghost use Rattle.am_laws.specs.Tables.{ActorsAreAuthors, TableIsWithin};
-ghost use Rattle.am_laws.specs.Laws.{OrdersAreStrict, SortingIsFree, NumbersAreShortest, SameIsEqual, AncestorsAreLeast, AncestorsKeepOrder, FitsExactly, VerdictsAreFirst, FirstBadIsLeast, ValidSetsKeepRules, IdsAreDistinct, ReferencesAreThere, ElementsFollowReferences, SettlesInTurn, SettlingKeepsOrder, ListingIsFree, DepthCounts, ElementsOfPart, AncestorsAreRead, ViewsStay, AncestorsStay};
+ghost use Rattle.am_laws.specs.Laws.{OrdersAreStrict, SortingIsFree, NumbersAreShortest, SameIsEqual, AncestorsAreLeast, AncestorsKeepOrder, FitsExactly, VerdictsAreFirst, FirstBadIsLeast, ValidSetsKeepRules, IdsAreDistinct, ReferencesAreThere, ElementsFollowReferences, SettlesInTurn, SettlingKeepsOrder, ListingIsFree, DepthCounts, ElementsOfPart, AncestorsAreRead, ViewsStay, AncestorsStay, HeadsReachAll};
 
 /// Ids are totally ordered, hashes too, and only equal ones tie.
 #[tactic(auto, using(crate::proofs::Proved::orders_are_strict))]
@@ -121,6 +121,11 @@ pub fn views_stay()
 #[tactic(auto, using(crate::proofs::Proved::ancestors_stay_valid))]
 pub fn ancestors_stay()
     ensures { AncestorsStay }
+{}
+
+/// Each member of a valid set is an ancestor of its heads, and the heads are held.
+pub fn heads_reach_all()
+    ensures { HeadsReachAll }
 {}
 
 /// The canonical table of a valid set is within the limits of one document, and each actor that it names is listed.
