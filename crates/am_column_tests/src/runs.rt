@@ -54,6 +54,19 @@ fn written_at_once(rt: HostRuntime) -> Result<(), AllocError> {
 }
 
 #[test]
+fn counted(rt: HostRuntime) -> Result<(), AllocError> {
+    let mut writer = RunWriter::<UnsignedItem>::new(rt.alloc());
+    let nothing_is_pending = !writer.count_byte(5, 1);
+    assert!(rt; UnsignedItem::end(&[5]) == Some(1));
+    writer.push(Some(&[5]))?;
+    let another_is = !writer.count_byte(6, 1);
+    let it_is = writer.count_byte(5, 2);
+    assert!(rt; writer.finish()?.as_slice() == &[3, 5][..]);
+    assert!(rt; nothing_is_pending && another_is && it_is);
+    Ok(())
+}
+
+#[test]
 fn taken(rt: HostRuntime) -> Result<(), AllocError> {
     let mut writer = RunWriter::<UnsignedItem>::new(rt.alloc());
     let bytes = [3, 5, 0, 2, 2, 0xac, 2, 0x7f, 1];

@@ -7,7 +7,7 @@ ghost use Rattle.am_runs.specs.Apart.{Took};
 
 use crate::cursor::DeltaCursor;
 use crate::skipping::{skipped, value_after};
-use am_leb::push_i;
+use am_leb::{push_i, signed_byte};
 use am_runs::{RunWriter, SignedItem};
 use am_types::Bytes;
 use std::alloc::{AllocError, Global};
@@ -24,6 +24,11 @@ fn put(
     match difference {
         None => differences.push(None),
         Some(difference) => {
+            if let Some(byte) = signed_byte(difference) {
+                if differences.count_byte(byte, 1) {
+                    return Ok(());
+                }
+            }
             item.clear();
             push_i(item, difference)?;
             differences.push(Some(item.as_slice()))

@@ -80,9 +80,6 @@ pub record CountedSoFar (bytes rest : List ℕ) (total : ℕ) : Type 0 where
   pub front : bytes ≡ flat_map uleb counts ++ rest
   pub total_is : total ≡ sum counts
 
-pub none_counted : (bytes : List ℕ) → CountedSoFar bytes bytes 0
-none_counted bytes = record { counts = []; each = tt; front = refl; total_is = refl }
-
 pub one_counted : (bytes rest behind : List ℕ) (total count : ℕ) → CountedSoFar bytes rest total → rest ≡ uleb count ++ behind → 1 ≤ count → count < 2 ^ 64 → CountedSoFar bytes behind (total + count)
 one_counted bytes rest behind total count w e h g = record {
   counts = w.counts ++ count ∷ [];
@@ -112,10 +109,6 @@ no_next bytes rest total most w le ne none counts c e =
 
 pub shorter : (rest behind : List ℕ) (count : ℕ) → rest ≡ uleb count ++ behind → length behind < length rest
 shorter rest behind count e = omega (arith, ap length e, length-append (uleb count) behind, length_uleb-pos count)
-
-pub all_counted : (bytes rest : List ℕ) (total : ℕ) → CountedSoFar bytes rest total → length rest ≡ 0 → (counts : List ℕ) × AreCounts counts × (bytes ≡ flat_map uleb counts) × (total ≡ sum counts)
-all_counted bytes [] total w e = (w.counts, w.each, w.front ∙ append-nil (flat_map uleb w.counts), w.total_is)
-all_counted bytes (x ∷ rest) total w e = absurd (omega arith)
 
 -- ---- what a cursor shows
 
@@ -203,10 +196,6 @@ known_counts bytes rest first flags count j n h e =
     let most = first + sum f.0 in
     let w = over_counts bytes rest first (sum f.0) most h e (omega arith) (omega arith) (f.0, f.1, f.2, refl) in
     ((w.0.0, sym n ∙ f.3 ∙ w.0.1), w.1.0)
-
-pub flags-next : (flag : Bool) (count : ℕ) (rest : List ℕ) → 0 < count → flags_at flag count rest ≡ flag ∷ flags_at flag (count - 1) rest
-flags-next flag zero rest h = absurd (omega arith)
-flags-next flag (suc count) rest h = ap (λ n. flag ∷ flags_at flag n rest) (let e : count ≡ suc count - 1 = omega arith in e)
 
 drop_replicate : (flag : Bool) (k n : ℕ) (xs : List Bool) → k ≤ n → drop k (replicate n flag ++ xs) ≡ replicate (n - k) flag ++ xs
 drop_replicate flag zero n xs h = ap (λ m. replicate m flag ++ xs) (let e : n ≡ n - 0 = omega arith in e)

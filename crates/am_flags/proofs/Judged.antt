@@ -88,9 +88,6 @@ maybe_to bytes most n w = ⊎_elim
     (λ c. (more_counts bytes w.0 c.1.0 c.1.1 c.1.3 c.1.4 c.0, (w.0, JoinsFlags-from_canon bytes w.0 c.1, w.2)))
     w.1
 
-pub maybe_none : (bytes : List ℕ) (most : ℕ) → bytes ≡ [] → (flags : List Bool) × CanonMaybe bytes flags × (length flags ≤ most)
-maybe_none bytes most e = ([], inl (tt, e), omega arith)
-
 -- ---- for the flags that are spelled
 
 pub plain_of_spelled : (bytes : List ℕ) (xs ys : List Bool) → JoinsFlags bytes xs → CanonFlags bytes ys → CanonFlags bytes xs

@@ -206,6 +206,20 @@ pub fn is_alike(p: &Pending, entry: Option<&[u8]>) -> bool
     }
 }
 
+/// Whether the pending run has no entries but the item of this one byte, and may have more of it.
+#[inline(always)]
+pub fn is_byte(p: &Pending, byte: u8) -> bool
+    ensures { IsTrue result → IsAlike p.now.kind p.now.last.items (Some (byte ∷ [])) }
+{
+    match p.kind {
+        PendingKind::Repeat => match p.last.as_slice() {
+            [only] => *only == byte,
+            _ => false,
+        },
+        _ => false,
+    }
+}
+
 /// The items that begin the bytes, at most so many, as far as each is unlike the one before it, where a literal run is
 /// pending and the first is unlike its last.
 pub fn apart_from<'a, K: Item>(p: &Pending, bytes: &'a [u8], most: u64) -> Option<Apart<'a>>
