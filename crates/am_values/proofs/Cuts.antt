@@ -101,9 +101,6 @@ cut_spelled (Some v ∷ values) h =
 
 -- ---- for `next`
 
-pub rest_cut : (x : Option ℕ) (list old : List (Option ℕ)) (raw rest : List ℕ) → old ≡ x ∷ list → rest ≡ drop (width x) raw → AreCut old raw → AreCut list rest
-rest_cut x list old raw rest e r h = let w = subst (λ l. AreCut l raw) e h in (cut_one x list raw rest (first_cut x list raw w) r).1 w
-
 -- ---- for `skip`
 
 values_one : (x : Option ℕ) (list : List (Option ℕ)) (raw rest : List ℕ) → rest ≡ drop (width x) raw → drop 1 (values_from (x ∷ list) raw) ≡ values_from list rest

@@ -44,11 +44,6 @@ past_like k x list h e =
       λ a. (all_left (replicate k x) (drop k list) (subst NoneNull s a)).1,
     )
 
-pub first_null : (k : ℕ) (x : Option ℕ) (list : List (Option ℕ)) → 1 ≤ k → take k list ≡ replicate k x → NoneNull list → IsSome x
-first_null zero x list g e h = absurd (omega arith)
-first_null (suc k) x [] g e h = absurd (cc)
-first_null (suc k) x (y ∷ list) g e h = let q : y ≡ x = cc in subst (λ o. IsSome o) q h.0
-
 -- ---- the numbers are canonical
 
 none_joined : (bytes : List ℕ) (list : List (Option (List ℕ))) → bytes ≡ [] → JoinsRuns unsigned_end bytes list → list ≡ []
@@ -99,9 +94,6 @@ length-numbers (v ∷ values) = ap suc (length-numbers values)
 length-spellings : (values : List RawValue) → length (spellings values) ≡ length values
 length-spellings [] = refl
 length-spellings (v ∷ values) = ap suc (length-spellings values)
-
-pub canonical_list : (bytes raw : List ℕ) (most : ℕ) → (values : List RawValue) × CanonValues bytes raw values × (length values ≤ most) → (list : List (Option (List ℕ))) × Canon unsigned_end bytes list × (length list ≤ most)
-canonical_list bytes raw most w = (spellings w.0, (w.1).numbers_are, omega (arith, w.2, length-spellings w.0))
 
 pub canonical_numbers : (bytes raw : List ℕ) (most : ℕ) → (values : List RawValue) × CanonValues bytes raw values × (length values ≤ most) → (meta : List (Option ℕ)) × JoinsUnsigned bytes meta × (length meta ≤ most) × NoneNull meta × AreCut meta raw
 canonical_numbers bytes raw most w =

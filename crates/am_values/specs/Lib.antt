@@ -1,3 +1,4 @@
 pub mod Columns
 pub mod Cutting
+pub mod Letters
 pub mod Writing

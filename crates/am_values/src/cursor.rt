@@ -1,12 +1,14 @@
 //! A cursor over the values of two columns.
-ghost use Rattle.std.specs.Prelude.{◌≡◌, ◌<◌, ◌≤◌, ◌+◌, ◌^◌, ◌++◌, ◌∷◌, [], List, Option, Some, length, take, drop, IfOk, IfSome, IfNone, OnOk, OnErr};
+ghost use Rattle.std.specs.Prelude.{◌≡◌, ◌<◌, ◌≤◌, ◌+◌, ◌^◌, ◌++◌, ◌∷◌, [], List, Option, Some, length, map, take, drop, IfOk, IfSome, IfNone, OnOk, OnErr};
 ghost use Rattle.std.specs.Option.{option_map};
 ghost use Rattle.am_types.specs.declared.RawValue.{RawValue};
 ghost use Rattle.am_types.specs.Views.{value_of};
 ghost use Rattle.am_values.specs.Columns.{JoinsValues, AllGood, given, joined, spellings};
+ghost use Rattle.am_values.specs.Letters.{letter, AreAscii};
 
 use crate::cutting::{are_cut, cut, skipped};
 use crate::fault::BadValue;
+use crate::letters::letters_ahead;
 use crate::taking::taken;
 use am_runs::{RunWriter, UnsignedCursor, UnsignedItem};
 use am_types::ValueRef;
@@ -85,6 +87,20 @@ impl<'a> ValueCursor<'a> {
         ensures { self.new ≡ drop n self.old }
     {
         self.raw = skipped(&mut self.numbers, self.raw, n);
+    }
+
+    /// The next values, at most so many, as far as each is known to be a letter, which is a text of one ASCII byte: their
+    /// bytes, which lie together. There may be fewer than there are letters, also none.
+    pub fn next_letters(&mut self, most: u64) -> &'a [u8]
+        ensures few { length result.now ≤ most }
+        ensures ascii { AreAscii result.now }
+        ensures next { self.old ≡ map (λ b. Some (letter b)) result.now ++ self.new }
+    {
+        let count = letters_ahead(&self.numbers, most);
+        let (letters, rest) = cut(count, self.raw);
+        self.numbers.skip(count);
+        self.raw = rest;
+        letters
     }
 
     // Appends the numbers of the next n values, by runs, and gives their raw bytes in one piece.

@@ -5,7 +5,7 @@ ghost use Rattle.am_values.specs.Cutting.{AreCut, widths};
 ghost use Rattle.am_values.specs.Writing.{spelled};
 
 use crate::cutting::past;
-use am_leb::push_u;
+use am_leb::{push_u, unsigned_byte};
 use am_runs::{RunWriter, UnsignedCursor, UnsignedItem};
 use std::alloc::AllocError;
 
@@ -20,6 +20,11 @@ pub fn put_alike(
     ensures ok { OnOk result (IfSome numbers.old (λ list. numbers.new ≡ Some (list ++ replicate count (Some (uleb number))))) }
     ensures failed { OnOk result (IfNone numbers.old (numbers.new ≡ None)) }
 {
+    if let Some(byte) = unsigned_byte(number) {
+        if numbers.count_byte(byte, count) {
+            return Ok(());
+        }
+    }
     item.clear();
     push_u(item, number)?;
     numbers.push_alike(Some(item.as_slice()), count)
