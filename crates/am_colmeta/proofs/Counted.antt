@@ -22,10 +22,6 @@ behind-one first zero bytes part rest h e = absurd (omega arith)
 behind-one first (suc n) bytes part rest h e =
     subst (λ m. go_on (behind first n) (first bytes) ≡ behind first m rest) (let s : n ≡ suc n - 1 = omega arith in s) (ap (go_on (behind first n)) e)
 
-pub behind-stop : {A : Type 0} (first : List ℕ → Option (A × List ℕ)) (n : ℕ) (bytes : List ℕ) → 0 < n → first bytes ≡ None → behind first n bytes ≡ None
-behind-stop first zero bytes h e = absurd (omega arith)
-behind-stop first (suc n) bytes h e = ap (go_on (behind first n)) e
-
 pub parts-one : {A : Type 0} (first : List ℕ → Option (A × List ℕ)) (n : ℕ) (bytes : List ℕ) (part : A) (rest : List ℕ) → 0 < n → first bytes ≡ Some (part, rest) → parts first n bytes ≡ part ∷ parts first (n - 1) rest
 parts-one first zero bytes part rest h e = absurd (omega arith)
 parts-one first (suc n) bytes part rest h e =
