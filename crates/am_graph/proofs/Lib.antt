@@ -15,6 +15,7 @@ pub mod Finding
 pub mod Found
 pub mod Held
 pub mod Named
+pub mod Marking
 pub mod Pending
 pub mod SameNodes
 pub mod SortCalls

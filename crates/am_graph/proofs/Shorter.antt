@@ -71,9 +71,6 @@ module _ (C : List Member) (x : Member) (sound : IsSound (nodes (C ++ x ∷ []))
       let before : low.0 < length C = (let a = low.1 in omega arith) in
       subst (λ h. holds C h ≡ true) found.2 (holds_own C found.0 (low.0, before, sym (at_old low.0 found.0 before) ∙ low.3))
 
-  last_deps : All (λ h. holds C h ≡ true) x.change.deps
-  last_deps = subst (λ (y : Member). All (λ h. holds C h ≡ true) y.change.deps) (at_new x) (earlier (length C) x (omega arith))
-
   member_deps : (m : Member) → Contains C m → All (λ h. holds C h ≡ true) m.change.deps
   member_deps m c = subst (λ (y : Member). All (λ h. holds C h ≡ true) y.change.deps) (at_old c.0 m c.1 ∙ c.2) (earlier c.0 m (let l = c.1 in omega arith))
 

@@ -56,11 +56,11 @@ place_push [] hs h k = refl
 place_push (x ∷ g) hs h zero = list_any-append (same hash_cmp x.0) hs (h ∷ [])
 place_push (x ∷ g) hs h (suc k) = place_push g hs h k
 
-or_off : (a : Bool) → (a || false) ≡ a
+pub or_off : (a : Bool) → (a || false) ≡ a
 or_off true = refl
 or_off false = refl
 
-not_same : (a b : ℕ) → (a ≡ b → ⊥) → is_eq (nat_cmp a b) ≡ false
+pub not_same : (a b : ℕ) → (a ≡ b → ⊥) → is_eq (nat_cmp a b) ≡ false
 not_same a b f = elim (cases_Bool (is_eq (nat_cmp a b))) [ inl t ↦ absurd (f (tells_apart exact_unsigned a b t)) | inr t ↦ t ]
 
 module _ (g : List (Hash × Node)) (sound : IsSound g) (h : Hash) (i : ℕ) (l : i < length g) (is : (e : Hash × Node) → h ≡ (get_or g i e).0) where

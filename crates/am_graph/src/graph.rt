@@ -135,35 +135,6 @@ impl Graph {
         Ok(())
     }
 
-    /// The hashes that no change has as a dependency, ascending.
-    pub fn heads(&self, alloc: Global) -> Result<List<Hash>, AllocError>
-        ensures set { IfOk result (λ found. ForSet self.now (λ C. found ≡ heads_of C)) }
-    {
-        let named = self.named(alloc)?;
-        let mut found: Vec<Hash> = Vec::new(alloc);
-        for i in 0..self.parts.held.len() {
-            let (hash, _) = self.parts.held.get_index(i).unwrap();
-            let is_head = !named.contains(hash);
-            pick(&mut found, *hash, is_head)?;
-        }
-        found.sort_unstable();
-        Ok(List::from(found))
-    }
-
-    /// The hashes that a change has as a dependency.
-    fn named(&self, alloc: Global) -> Result<HashSet<Hash>, AllocError>
-        ensures { IfOk result (λ named. (h : Hash) → has named h ≡ is_named_in self.now h) }
-    {
-        let mut named: HashSet<Hash> = HashSet::new(alloc);
-        for i in 0..self.parts.held.len() {
-            let (_, node) = self.parts.held.get_index(i).unwrap();
-            for dep in node.deps.as_slice() {
-                named.insert(*dep)?;
-            }
-        }
-        Ok(named)
-    }
-
     /// The hashes of the ancestors of these, ascending.
     pub fn ancestors(&self, alloc: Global, heads: &[Hash]) -> Result<List<Hash>, ClockFault>
         ensures ok { IfOk result (λ found. ForSet self.now (λ C. found ≡ sorted_by hash_cmp (hashes (ancestors C heads.now)))) }
@@ -214,7 +185,7 @@ impl Graph {
 }
 
 /// Adds a hash that is picked.
-fn pick(found: &mut Vec<Hash>, hash: Hash, is_picked: bool) -> Result<(), AllocError>
+pub(crate) fn pick(found: &mut Vec<Hash>, hash: Hash, is_picked: bool) -> Result<(), AllocError>
     ensures { OnOk result (found.new.items ≡ found.old.items ++ (if is_picked then hash ∷ [] else [])) }
 {
     if is_picked {

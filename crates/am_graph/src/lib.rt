@@ -8,6 +8,7 @@ mod cutting;
 mod fault;
 mod find;
 mod graph;
+mod heads;
 mod node;
 mod parts;
 mod place;
