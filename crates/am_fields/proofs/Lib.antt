@@ -23,3 +23,5 @@ pub mod ListPlaces
 pub mod Stretches
 pub mod Ahead
 pub mod Alike
+pub mod RisingIds
+pub mod Runs

@@ -5,6 +5,7 @@ pub mod Layout
 pub mod Limits
 pub mod Actors
 pub mod Reading
+pub mod Rising
 pub mod Fields
 pub mod Groups
 pub mod Writing

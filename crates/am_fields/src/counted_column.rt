@@ -1,5 +1,5 @@
 //! A column that counts how many like the next item are to come. A run is read once.
-ghost use Rattle.std.specs.Prelude.{◌≡◌, ◌+◌, ◌≤◌, ◌<◌, ◌^◌, ◌++◌, ◌∷◌, List, length, drop, replicate, IfOk, OnErr};
+ghost use Rattle.std.specs.Prelude.{◌≡◌, ◌+◌, ◌≤◌, ◌<◌, ◌^◌, ◌++◌, ◌∷◌, List, length, take, drop, replicate, IfOk, OnErr};
 ghost use Rattle.am_fields.specs.Filling.{Fills};
 
 use crate::fault::BadFields;
@@ -71,6 +71,15 @@ impl<V, C: Runs<V> + Drop> CountedColumn<V, C> {
             return (self.item, count);
         }
         self.behind.next_alike_within(most)
+    }
+
+    /// An item, and how many like it are known to come next, which may be none. Nothing is read.
+    #[inline(always)]
+    pub fn known_alike(&self) -> (C::Item, u64)
+        ensures few { result.1 ≤ length self.now }
+        ensures like { take result.1 self.now ≡ replicate result.1 (C.value result.0) }
+    {
+        (self.item, self.alike)
     }
 
     /// Leaves out the next n items.

@@ -30,6 +30,11 @@ pub trait Lent<V: Copy>: Written {
         ensures ok { OnOk result (option_map (λ x. to.old.items ++ Self.code x) (shown (Some value)) ≡ Some to.new.items) }
         ensures told { OnOk result (IfSome (shown (Some value)) (IsTold Self.end_of Self.code Self.value_of)) };
 
+    /// The byte that spells an item, where it is known to be one.
+    fn byte_of(value: V) -> Option<u8>
+        ensures byte { IfSome result (λ byte. option_map Self.code (shown (Some value)) ≡ Some (byte ∷ [])) }
+        ensures told { IfSome result (λ byte. IfSome (shown (Some value)) (IsTold Self.end_of Self.code Self.value_of)) };
+
     /// A null is shown as a null.
     ghost nothing: { shown None ≡ None };
 }
@@ -62,6 +67,11 @@ fn put<V: Copy, K: Lent<V>>(
     let Some(value) = value else {
         return runs.push_alike(None, count);
     };
+    if let Some(byte) = K::byte_of(value) {
+        if runs.count_byte(byte, count) {
+            return Ok(());
+        }
+    }
     item.clear();
     K::spell(item, value)?;
     runs.push_alike(Some(item.as_slice()), count)

@@ -1,5 +1,5 @@
 //! How many items each row has.
-ghost use Rattle.std.specs.Prelude.{◌≡◌, ◌<◌, ◌∷◌, length};
+ghost use Rattle.std.specs.Prelude.{◌≡◌, ◌<◌, ◌≤◌, ◌∷◌, length, take, drop, replicate};
 ghost use Rattle.am_fields.specs.Groups.{counts};
 
 use crate::counted_column::CountedColumn;
@@ -43,5 +43,26 @@ impl<'a> LengthColumn<'a> {
             Some(n) => n,
             None => 0,
         }
+    }
+
+    /// A length, and how many like it are known to come next, which may be none. Nothing is read.
+    #[inline(always)]
+    pub fn known_alike(&self) -> (u64, u64)
+        ensures few { result.1 ≤ length self.now }
+        ensures like { take result.1 self.now ≡ replicate result.1 result.0 }
+    {
+        let (item, count) = self.column.known_alike();
+        match item {
+            Some(n) => (n, count),
+            None => (0, count),
+        }
+    }
+
+    /// Leaves out the next n lengths.
+    pub fn skip(&mut self, n: u64)
+        requires { n ≤ length self.old }
+        ensures { self.new ≡ drop n self.old }
+    {
+        self.column.skip(n);
     }
 }

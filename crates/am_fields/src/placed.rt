@@ -64,7 +64,7 @@ impl<'a, B: RowCells> PlacedColumns<'a, B> {
     }
 
     // Leaves out the next n items, without reading them.
-    fn leap(&mut self, n: u64)
+    pub(crate) fn leap(&mut self, n: u64)
         requires { n ≤ length self.old }
         ensures { self.new ≡ drop n self.old }
     {
