@@ -8,7 +8,6 @@ use Rattle.std.proofs.lemmas.Bool.{cases_Bool, lt-ltb, and_parts, ltb-true}
 use Rattle.std.proofs.lemmas.List.{get_or_append_left, get_or-drop}
 use Rattle.std.proofs.Math.Seq.{get_or-append_seam}
 use Rattle.am_types.specs.declared.ObjId.{ObjId}
-use Rattle.am_types.specs.declared.Entry.{Entry}
 use Rattle.am_types.specs.Order.{object_cmp}
 use Rattle.am_types.specs.Same.{same_object}
 use Rattle.am_types.specs.Views.{object_of}
@@ -16,10 +15,10 @@ use Rattle.am_types.specs.EntryOrder.{IsInOrder}
 use Rattle.am_types.proofs.SameLaws.{same_object-true}
 use Rattle.am_json.specs.declared.blocks.Block.{Block}
 use Rattle.am_json.specs.Blocks.{start_at, object_at, AreBlocks}
-use Rattle.am_json.specs.Entries.{is_in}
+use Rattle.am_json.specs.Stretches.{Stretch, spread, stands_in}
 use Rattle.am_json.proofs.ObjectOrder.{object_total}
-use Rattle.am_json.proofs.Ordered.{by_objects}
 use Rattle.am_json.proofs.Searched.{filter_none, filter_front, filter_after, is_less, less_differs}
+use Rattle.am_json.proofs.Spread.{by_objects}
 
 -- ---- places
 
@@ -110,10 +109,10 @@ part p xs s t le bound before here after =
 
 -- ---- the entries of some blocks
 
-module _ (bs : List Block) (es : List Entry) (blocks : AreBlocks bs es) where
+module _ (bs : List Block) (es : List Stretch) (blocks : AreBlocks bs es) where
   -- what the objects of the blocks from j to m pass, their entries pass
   pub over : (Q : ObjId → Type 0) (j m : ℕ) → m ≤ length bs → ((k : ℕ) → j ≤ k → k < m → Q (object_at bs k))
-      → (i : ℕ) (e : Entry) → start_at bs (length es) j ≤ i → i < start_at bs (length es) m → j ≤ m → Q (get_or es i e).obj
+      → (i : ℕ) (e : Stretch) → start_at bs (length es) j ≤ i → i < start_at bs (length es) m → j ≤ m → Q (get_or es i e).entry.obj
   over Q j zero le f i e from to up =
       let zeroth : j ≡ 0 = omega arith in
       absurd (omega (arith, subst (λ (x : ℕ). start_at bs (length es) x ≤ i) zeroth from, to))
@@ -164,11 +163,11 @@ module _ (bs : List Block) (es : List Entry) (blocks : AreBlocks bs es) where
       | inr f ↦ f
     ]
 
-    before : AllWithin (λ (e : Entry). is_in o e ≡ false) es 0 (start_at bs (length es) j)
+    before : AllWithin (λ (e : Stretch). stands_in o e ≡ false) es 0 (start_at bs (length es) j)
     before i e from to =
         over (λ x. same_object x o ≡ false) 0 j bound (λ k a b. differs_before k b) i e (omega (arith, blocks.first)) to (omega arith)
 
-    pub missing : (nat_lt j (length bs) && same_object (object_at bs j) o) ≡ false → [] ≡ filter (is_in o) es
+    pub missing : (nat_lt j (length bs) && same_object (object_at bs j) o) ≡ false → [] ≡ filter (stands_in o) es
     missing other =
         let each : (k : ℕ) → 0 ≤ k → k < length bs → same_object (object_at bs k) o ≡ false =
         λ k a lt. elim (below_or_not k j) [
@@ -178,24 +177,24 @@ module _ (bs : List Block) (es : List Entry) (blocks : AreBlocks bs es) where
             | inr e ↦ subst (λ (x : ℕ). same_object (object_at bs x) o ≡ false) e (second_false _ _ (lt-ltb j (length bs) (omega arith)) other)
           ]
         ] in
-        sym (filter_none (is_in o) es (λ i e from to.
+        sym (filter_none (stands_in o) es (λ i e from to.
         over (λ x. same_object x o ≡ false) 0 (length bs) (omega arith) each i e (omega (arith, blocks.first)) (omega (arith, start_end bs (length es) (length bs) (omega arith))) (omega arith)))
 
     pub found : j < length bs → same_object (object_at bs j) o ≡ true
-        → take (start_at bs (length es) (suc j) - start_at bs (length es) j) (drop (start_at bs (length es) j) es) ≡ filter (is_in o) es
+        → take (start_at bs (length es) (suc j) - start_at bs (length es) j) (drop (start_at bs (length es) j) es) ≡ filter (stands_in o) es
     found lt same =
-        part (is_in o) es (start_at bs (length es) j) (start_at bs (length es) (suc j)) (omega (arith, blocks.some j lt)) (start_bound (suc j)) before
+        part (stands_in o) es (start_at bs (length es) j) (start_at bs (length es) (suc j)) (omega (arith, blocks.some j lt)) (start_bound (suc j)) before
         (λ i e from to. over (λ x. same_object x o ≡ true) j (suc j) (omega arith) (λ k a b. subst (λ (x : ℕ). same_object (object_at bs x) o ≡ true) (same_place j k (omega arith)) same) i e from to (omega arith))
         (λ i e from to.
         over (λ x. same_object x o ≡ false) (suc j) (length bs) (omega arith) (λ k a b. differs_after k (omega arith) b) i e from (omega (arith, start_end bs (length es) (length bs) (omega arith))) (omega arith))
 
 -- ---- one more entry
 
-module _ (bs : List Block) (es : List Entry) (e : Entry) (blocks : AreBlocks bs es) where
+module _ (bs : List Block) (es : List Stretch) (e : Stretch) (blocks : AreBlocks bs es) where
   longer : length (es ++ e ∷ []) ≡ length es + 1
   longer = length-append es (e ∷ [])
 
-  pub same_block : 0 < length bs → object_at bs (length bs - 1) ≡ e.obj → AreBlocks bs (es ++ e ∷ [])
+  pub same_block : 0 < length bs → object_at bs (length bs - 1) ≡ e.entry.obj → AreBlocks bs (es ++ e ∷ [])
   same_block some is = record {
     first = start_same bs (length (es ++ e ∷ [])) (length es) 0 some ∙ blocks.first;
     some = λ k lt.
@@ -213,7 +212,7 @@ module _ (bs : List Block) (es : List Entry) (e : Entry) (blocks : AreBlocks bs 
                 | inl l ↦ omega (arith, to, start_same bs (length (es ++ e ∷ [])) (length es) (suc k) l)
                 | inr l ↦ omega (arith, inside, start_end bs (length es) (suc k) l)
               ] in
-              ap (λ (x : Entry). x.obj) (get_or_append_left es (e ∷ []) d i inside) ∙ blocks.alike k i d lt (omega (arith, now, from)) there
+              ap (λ (x : Stretch). x.entry.obj) (get_or_append_left es (e ∷ []) d i inside) ∙ blocks.alike k i d lt (omega (arith, now, from)) there
           | inr last ↦
               let bound : start_at bs (length (es ++ e ∷ [])) (suc k) ≤ length es + 1 = elim (below_or_not (suc k) (length bs)) [
                 | inl l ↦ omega (arith, start_bound bs es blocks (suc k), start_same bs (length (es ++ e ∷ [])) (length es) (suc k) l)
@@ -224,14 +223,14 @@ module _ (bs : List Block) (es : List Entry) (e : Entry) (blocks : AreBlocks bs 
                 | inr l ↦ omega arith
               ] in
               let place : i ≡ length es = omega (arith, to, last, bound) in
-              ap (λ (x : Entry). x.obj) (ap (λ (x : ℕ). get_or (es ++ e ∷ []) x d) place ∙ get_or-append_seam es e [] d)
+              ap (λ (x : Stretch). x.entry.obj) (ap (λ (x : ℕ). get_or (es ++ e ∷ []) x d) place ∙ get_or-append_seam es e [] d)
               ∙ (sym is ∙ ap (object_at bs) (same_place (length bs - 1) k (omega arith)))
         ];
     apart = blocks.apart;
   }
 
-  module _ (b : Block) (start : b.start ≡ length es) (object : object_of b.object ≡ e.obj) (ordered : IsInOrder (es ++ e ∷ []))
-      (differs : (nat_lt 0 (length bs) && same_object (object_at bs (length bs - 1)) e.obj) ≡ false) where
+  module _ (b : Block) (start : b.start ≡ length es) (object : object_of b.object ≡ e.entry.obj) (ordered : IsInOrder (spread (es ++ e ∷ [])))
+      (differs : (nat_lt 0 (length bs) && same_object (object_at bs (length bs - 1)) e.entry.obj) ≡ false) where
     more : (k : ℕ) → k ≤ length bs → start_at (bs ++ b ∷ []) (length (es ++ e ∷ [])) k ≡ start_at bs (length es) k
     more k h = start_more bs b (length es) (length (es ++ e ∷ [])) k start h
 
@@ -242,24 +241,24 @@ module _ (bs : List Block) (es : List Entry) (e : Entry) (blocks : AreBlocks bs 
     count = length-append bs (b ∷ [])
 
     -- the last object comes before the new one
-    last_below : (k : ℕ) → suc k ≡ length bs → object_cmp (object_at bs k) e.obj ≡ Less
+    last_below : (k : ℕ) → suc k ≡ length bs → object_cmp (object_at bs k) e.entry.obj ≡ Less
     last_below k is =
         let i = start_at bs (length es) k in
         let inside : i < length es = omega (arith, blocks.some k (omega arith), start_bound bs es blocks (suc k)) in
-        let here : (get_or es i e).obj ≡ object_at bs k = blocks.alike k i e (omega arith) (omega arith) (blocks.some k (omega arith)) in
-        let first : (get_or (es ++ e ∷ []) i e).obj ≡ object_at bs k = ap (λ (x : Entry). x.obj) (get_or_append_left es (e ∷ []) e i inside) ∙ here in
-        let second : (get_or (es ++ e ∷ []) (length es) e).obj ≡ e.obj = ap (λ (x : Entry). x.obj) (get_or-append_seam es e [] e) in
-        let up : object_cmp (get_or (es ++ e ∷ []) i e).obj (get_or (es ++ e ∷ []) (length es) e).obj ≢ Greater =
+        let here : (get_or es i e).entry.obj ≡ object_at bs k = blocks.alike k i e (omega arith) (omega arith) (blocks.some k (omega arith)) in
+        let first : (get_or (es ++ e ∷ []) i e).entry.obj ≡ object_at bs k = ap (λ (x : Stretch). x.entry.obj) (get_or_append_left es (e ∷ []) e i inside) ∙ here in
+        let second : (get_or (es ++ e ∷ []) (length es) e).entry.obj ≡ e.entry.obj = ap (λ (x : Stretch). x.entry.obj) (get_or-append_seam es e [] e) in
+        let up : object_cmp (get_or (es ++ e ∷ []) i e).entry.obj (get_or (es ++ e ∷ []) (length es) e).entry.obj ≢ Greater =
         by_objects (es ++ e ∷ []) ordered i (length es) e inside (omega (arith, longer)) in
-        let up_too : object_cmp (object_at bs k) e.obj ≢ Greater = subst (λ (x : ObjId). object_cmp (object_at bs k) x ≢ Greater) second (subst (λ (x : ObjId). object_cmp x (get_or (es ++ e ∷ []) (length es) e).obj ≢ Greater) first up) in
-        let apart : same_object (object_at bs (length bs - 1)) e.obj ≡ false = second_false _ _ (lt-ltb 0 (length bs) (omega arith)) differs in
-        only_less (object_cmp (object_at bs k) e.obj) up_too (subst (λ (x : ℕ). same_object (object_at bs x) e.obj ≡ false) (same_place (length bs - 1) k (omega arith)) apart)
+        let up_too : object_cmp (object_at bs k) e.entry.obj ≢ Greater = subst (λ (x : ObjId). object_cmp (object_at bs k) x ≢ Greater) second (subst (λ (x : ObjId). object_cmp x (get_or (es ++ e ∷ []) (length es) e).entry.obj ≢ Greater) first up) in
+        let apart : same_object (object_at bs (length bs - 1)) e.entry.obj ≡ false = second_false _ _ (lt-ltb 0 (length bs) (omega arith)) differs in
+        only_less (object_cmp (object_at bs k) e.entry.obj) up_too (subst (λ (x : ℕ). same_object (object_at bs x) e.entry.obj ≡ false) (same_place (length bs - 1) k (omega arith)) apart)
 
-    all_below : (j : ℕ) → j < length bs → object_cmp (object_at bs j) e.obj ≡ Less
+    all_below : (j : ℕ) → j < length bs → object_cmp (object_at bs j) e.entry.obj ≡ Less
     all_below j lt = elim (below_or_not (suc j) (length bs)) [
       | inl l ↦
           let last = length bs - 1 in
-          object_total.trans (object_at bs j) (object_at bs last) e.obj (blocks.apart j last (omega arith) (omega arith)) (last_below last (omega arith))
+          object_total.trans (object_at bs j) (object_at bs last) e.entry.obj (blocks.apart j last (omega arith) (omega arith)) (last_below last (omega arith))
       | inr l ↦ last_below j (omega arith)
     ]
 
@@ -276,13 +275,13 @@ module _ (bs : List Block) (es : List Entry) (e : Entry) (blocks : AreBlocks bs 
       alike = λ k i d lt from to. elim (below_or_at k (length bs) (omega (arith, count, lt))) [
         | inl l ↦
             let inside : i < length es = omega (arith, to, more (suc k) (omega arith), start_bound bs es blocks (suc k)) in
-            ap (λ (x : Entry). x.obj) (get_or_append_left es (e ∷ []) d i inside)
+            ap (λ (x : Stretch). x.entry.obj) (get_or_append_left es (e ∷ []) d i inside)
             ∙ (blocks.alike k i d l (omega (arith, from, more k (omega arith))) (omega (arith, to, more (suc k) (omega arith))) ∙ sym (object_more bs b k l))
         | inr is ↦
             let here : start_at (bs ++ b ∷ []) (length (es ++ e ∷ [])) k ≡ length es = more k (omega arith) ∙ start_end bs (length es) k (omega arith) in
             let there : start_at (bs ++ b ∷ []) (length (es ++ e ∷ [])) (suc k) ≡ length es + 1 = ap (λ (x : ℕ). start_at (bs ++ b ∷ []) (length (es ++ e ∷ [])) (suc x)) is ∙ at_end in
             let place : i ≡ length es = omega (arith, from, to, here, there) in
-            ap (λ (x : Entry). x.obj) (ap (λ (x : ℕ). get_or (es ++ e ∷ []) x d) place ∙ get_or-append_seam es e [] d)
+            ap (λ (x : Stretch). x.entry.obj) (ap (λ (x : ℕ). get_or (es ++ e ∷ []) x d) place ∙ get_or-append_seam es e [] d)
             ∙ (sym object ∙ sym (object_new bs b k is))
       ];
       apart = λ j k lt inside. elim (below_or_at k (length bs) (omega (arith, count, inside))) [
@@ -291,22 +290,22 @@ module _ (bs : List Block) (es : List Entry) (e : Entry) (blocks : AreBlocks bs 
             (subst (λ (x : ObjId). object_cmp x (object_at bs k) ≡ Less) (sym (object_more bs b j (omega arith))) (blocks.apart j k lt l))
         | inr is ↦
             subst (λ (x : ObjId). object_cmp (object_at (bs ++ b ∷ []) j) x ≡ Less) (sym (object_new bs b k is ∙ object))
-            (subst (λ (x : ObjId). object_cmp x e.obj ≡ Less) (sym (object_more bs b j (omega arith))) (all_below j (omega arith)))
+            (subst (λ (x : ObjId). object_cmp x e.entry.obj ≡ Less) (sym (object_more bs b j (omega arith))) (all_below j (omega arith)))
       ];
     }
 
 -- ---- any entry of an object
 
-module _ (bs : List Block) (es : List Entry) (o : ObjId) (blocks : AreBlocks bs es) where
+module _ (bs : List Block) (es : List Stretch) (o : ObjId) (blocks : AreBlocks bs es) where
   -- the last block is that of the object
-  pub again : (nat_lt 0 (length bs) && same_object (object_at bs (length bs - 1)) o) ≡ true → (e : Entry) → e.obj ≡ o → IsInOrder (es ++ e ∷ []) → AreBlocks bs (es ++ e ∷ [])
+  pub again : (nat_lt 0 (length bs) && same_object (object_at bs (length bs - 1)) o) ≡ true → (e : Stretch) → e.entry.obj ≡ o → IsInOrder (spread (es ++ e ∷ [])) → AreBlocks bs (es ++ e ∷ [])
   again test e is ordered =
       let parts = place_is 0 (length bs) _ test in
       same_block bs es e blocks parts.0 (same_object-true (object_at bs (length bs - 1)) o parts.1 ∙ sym is)
 
   -- it isn't
   pub anew : (nat_lt 0 (length bs) && same_object (object_at bs (length bs - 1)) o) ≡ false → (b : Block) → b.start ≡ length es → object_of b.object ≡ o
-      → (e : Entry) → e.obj ≡ o → IsInOrder (es ++ e ∷ []) → AreBlocks (bs ++ b ∷ []) (es ++ e ∷ [])
+      → (e : Stretch) → e.entry.obj ≡ o → IsInOrder (spread (es ++ e ∷ [])) → AreBlocks (bs ++ b ∷ []) (es ++ e ∷ [])
   anew test b start object e is ordered =
       new_block bs es e blocks b start (object ∙ sym is) ordered
       (subst (λ (x : ObjId). (nat_lt 0 (length bs) && same_object (object_at bs (length bs - 1)) x) ≡ false) (sym is) test)

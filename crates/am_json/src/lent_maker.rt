@@ -8,14 +8,15 @@ ghost use Rattle.am_json.specs.Shown.{json_data};
 
 use crate::blocks::Entries;
 use crate::fault::JsonFault;
+use crate::filled::fill;
 use crate::form::Form;
 use crate::written::written;
-use am_types::{Bytes, EntryRef};
+use am_types::{Bytes, EntryRef, EntrySource};
 use std::alloc::{AllocError, Global};
 use std::marker::Model;
 
 /// A [`JsonMaker`](crate::JsonMaker) that copies no entry: each is lent until the text is made. A contract sees the form, the
-/// entries that were pushed, and whether memory was wanting; that is answered from then on.
+/// entries that it was given, and whether memory was wanting; that is answered from then on.
 #[derive(Drop)]
 pub struct LentJsonMaker<'a> {
     form: Form,
@@ -25,13 +26,14 @@ pub struct LentJsonMaker<'a> {
 
 impl<'a> Model for LentJsonMaker<'a> {
     ghost use Rattle.am_json.specs.Held.{Held};
-    ghost use Rattle.am_types.specs.EntryOrder.{IsInOrder};
 
     ghost Value = { Held };
 
-    ghost view = { λ m. record { form = m.form; entries = m.entries; failed = m.failed } };
+    ghost use Rattle.am_json.specs.Stretches.{spread, AreKept};
 
-    ghost invariant = { λ m. IsInOrder m.entries };
+    ghost view = { λ m. record { form = m.form; entries = spread m.entries; failed = m.failed } };
+
+    ghost invariant = { λ m. AreKept m.form m.entries };
 }
 
 impl<'a> LentJsonMaker<'a> {
@@ -77,6 +79,27 @@ impl<'a> LentJsonMaker<'a> {
                 Err(error)
             }
         }
+    }
+
+    /// Takes all entries that a source hands out, behind those that are there, in the order that [`push`](Self::push) asks
+    /// for. Where the winners alone are shown, letters of a text take no room of their own. An error says that memory was
+    /// wanting; the maker is gone then.
+    pub fn filled<S: EntrySource<'a>>(self, source: &mut S) -> Result<Self, AllocError>
+        requires { IsInOrder (self.entries ++ S.entries source.old) }
+        ensures ok { IfOk result (λ maker. maker ≡ record { form = self.entry.form; entries = self.entry.entries ++ S.entries source.old; failed = false }) }
+        ensures read { OnOk result (S.entries source.new ≡ []) }
+        ensures failed { self.entry.failed ≡ true → IsErr result }
+    {
+        if self.failed {
+            return Err(AllocError);
+        }
+        let mut entries = self.entries;
+        fill(self.form, &mut entries, source)?;
+        Ok(LentJsonMaker {
+            form: self.form,
+            entries,
+            failed: false,
+        })
     }
 
     /// The text: the compact JSON (RFC 8259) of what the entries show, written straight into one buffer. It is refused

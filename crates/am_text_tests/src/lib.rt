@@ -6,4 +6,6 @@ mod cache;
 #[cfg(test)]
 mod json;
 #[cfg(test)]
+mod listed;
+#[cfg(test)]
 mod script;

@@ -10,5 +10,5 @@ scalar_time e h = rw h refl
 
 pub returns-in-9 : goal.returns-in-9
 returns-in-9 g c =
-    let kind : c.args.entry.now.value.kind ≡ 9 = ap (λ (v : RawValue). v.kind) (sym c.value-value.ensures) ∙ c.in-9.is in
-    rw (scalar_time c.args.entry.now kind, ← c.value-value.ensures) c.send_time.ensures
+    let kind : c.args.entry.now.entry.value.kind ≡ 9 = ap (λ (v : RawValue). v.kind) (sym c.value-value.ensures) ∙ c.in-9.is in
+    rw (scalar_time c.args.entry.now.entry kind, ← c.value-value.ensures) c.send_time.ensures
