@@ -12,11 +12,12 @@ ghost use Rattle.am_session.specs.Reading.{printed, reading_at};
 use crate::replies::{refusal, unknown};
 use am_delivery::part_is_valid;
 use am_graph::{Clock, ClockFault};
-use am_json::{Form, JsonFault, LentJsonMaker, order_front};
+use am_json::{Form, JsonFault, LentJsonMaker};
+use am_laws::heads_reach_all;
 use am_replay::entries_are_in_order;
 use am_store::Store;
 use am_types::{Bytes, Hash};
-use am_view::{Shown, blank_entry, heads_reach_all};
+use am_view::Shown;
 use std::alloc::{AllocError, Global};
 
 // A text on a line of its own.
@@ -51,7 +52,7 @@ fn maker_for<'a>(alloc: Global, form: Form, shown: &Shown<'a>) -> LentJsonMaker<
     }
 }
 
-// The entries that are handed out, pushed as they come.
+// All entries that are handed out.
 fn pushed<'a>(
     alloc: Global,
     form: Form,
@@ -61,13 +62,7 @@ fn pushed<'a>(
     ensures form { IfOk result (λ maker. maker.form ≡ form) }
     ensures entries { IfOk result (λ maker. maker.entries ≡ shown.old) }
 {
-    order_front();
-    let mut maker = maker_for(alloc, form, shown);
-    let mut entry = blank_entry();
-    while shown.next_into(&mut entry) {
-        maker.push(entry)?;
-    }
-    Ok(maker)
+    maker_for(alloc, form, shown).filled(shown)
 }
 
 // The reply with the text of the entries that are handed out. The walk stands in a box: letting go of a box is one step of

@@ -1,7 +1,10 @@
 //! What is covered, asked of many ids.
-ghost use Rattle.std.specs.Prelude.{◌≡◌, true, None, Some};
+ghost use Rattle.std.specs.Prelude.{◌≡◌, ◌≤◌, true, None, Some};
+ghost use Rattle.std.specs.List.{AllByRecursion};
 ghost use Rattle.am_types.specs.declared.OpId.{OpId};
 ghost use Rattle.am_types.specs.Views.{id_of};
+ghost use Rattle.am_graph.specs.Clocks.{reach_of};
+ghost use Rattle.am_fields.specs.Rising.{rising};
 ghost use Rattle.am_view.specs.Seen.{seen_by};
 
 use am_graph::Clock;
@@ -29,6 +32,17 @@ impl<'a> Model for Asked<'a> {
     ghost view = { λ a. option_map (λ c. c.now) a.clock };
 
     ghost invariant = { λ a. IfSome a.clock (λ c. a.end ≡ (reach_of c.now a.actor.now).end) };
+}
+
+// The counter below which the clock covers the ids of an actor, where it is known for one that may be the same.
+fn end_known(clock: &Clock, known: &[u8], end: u64, actor: &[u8]) -> u64
+    requires { end ≡ (reach_of clock.now known.now).end }
+    ensures { result ≡ (reach_of clock.now actor.now).end }
+{
+    if same_actor(actor, known) {
+        return end;
+    }
+    clock.end(actor)
 }
 
 impl<'a> Asked<'a> {
@@ -77,6 +91,21 @@ impl<'a> Asked<'a> {
                     self.end = clock.end(id.actor);
                 }
                 id.counter < self.end
+            }
+        }
+    }
+
+    /// How many of so many ids that rise from this one on are covered. They are the first of them.
+    pub fn covered(&mut self, id: IdRef<'a>, count: u64) -> u64
+        ensures same { self.new ≡ self.old }
+        ensures few { result ≤ count }
+        ensures covered { AllByRecursion (λ i. seen_by self.old i ≡ true) (rising (id_of id.entry) result) }
+    {
+        match self.clock {
+            None => count,
+            Some(clock) => {
+                let end = end_known(clock, self.actor, self.end, id.actor);
+                count.min(end.saturating_sub(id.counter))
             }
         }
     }

@@ -177,6 +177,15 @@ impl<C: Items> Deferred<C> {
         self.owed += 1;
     }
 
+    /// Leaves out the next n items.
+    pub fn pass_many(&mut self, n: u64)
+        requires { n ≤ length self.old }
+        ensures { self.new ≡ drop n self.old }
+    {
+        let _all = self.columns.left();
+        self.owed += n;
+    }
+
     /// The next item.
     #[inline(always)]
     pub fn next(&mut self) -> C::Item

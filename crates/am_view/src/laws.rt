@@ -1,5 +1,5 @@
 //! Laws over the definitions. Each function does nothing; its contract is the law.
-ghost use Rattle.am_view.specs.Laws.{HeadsReachAll, ReadsByRows, WalksRows};
+ghost use Rattle.am_view.specs.Laws.{ReadsByRows, WalksRows};
 
 /// At the clock of some heads the rows of a valid set show the entries that the operations of the heads' ancestors leave,
 /// in document order and with their totals.
@@ -10,9 +10,4 @@ pub fn reads_by_rows()
 /// One walk along the rows of a valid set, each told by those behind it in its slot, finds what the rows show.
 pub fn walks_rows()
     ensures { WalksRows }
-{}
-
-/// Each member of a valid set is an ancestor of its heads, and the heads are held.
-pub fn heads_reach_all()
-    ensures { HeadsReachAll }
 {}

@@ -11,5 +11,5 @@ mod shown;
 mod slots;
 mod tally;
 
-pub use laws::{heads_reach_all, reads_by_rows, walks_rows};
-pub use shown::{Shown, blank_entry};
+pub use laws::{reads_by_rows, walks_rows};
+pub use shown::Shown;

@@ -1,5 +1,5 @@
 //! The objects of rows, read once for all rows that stand together in one.
-ghost use Rattle.std.specs.Prelude.{◌≡◌, ◌<◌, ◌∷◌, length};
+ghost use Rattle.std.specs.Prelude.{◌≡◌, ◌<◌, ◌≤◌, ◌∷◌, length, take, drop, replicate};
 ghost use Rattle.am_types.specs.declared.ObjId.{ObjId};
 ghost use Rattle.am_types.specs.Views.{object_of};
 
@@ -67,6 +67,30 @@ impl<'a> Objects<'a> {
         ensures { (o : ObjId) × (self.old ≡ o ∷ self.new) }
     {
         let _object = self.next();
+    }
+
+    /// An object, and how many of the next rows are known to stand in it, which may be none. Nothing is read.
+    #[inline(always)]
+    pub fn known_alike(&self) -> (ObjRef<'a>, u64)
+        ensures few { result.1 ≤ length self.now }
+        ensures like { take result.1 self.now ≡ replicate result.1 (object_of result.0) }
+    {
+        (self.object, self.alike - self.passed)
+    }
+
+    /// Leaves out the next n objects.
+    pub fn skip(&mut self, n: u64)
+        requires { n ≤ length self.old }
+        ensures { self.new ≡ drop n self.old }
+    {
+        if n <= self.alike - self.passed {
+            self.passed += n;
+            return;
+        }
+        let _all = self.columns.left();
+        self.columns.skip(self.passed + n);
+        self.alike = 0;
+        self.passed = 0;
     }
 
     /// The columns of those that are left.

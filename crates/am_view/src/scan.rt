@@ -1,11 +1,15 @@
 //! The rows of a document, of which only so much is read as tells what is shown.
-ghost use Rattle.std.specs.Prelude.{◌≡◌, ◌<◌, ◌≤◌, ◌^◌, ◌∷◌, List, length, map, true, false, Some, pos, if◌then◌else◌};
+ghost use Rattle.std.specs.Prelude.{◌≡◌, ◌<◌, ◌≤◌, ◌^◌, ◌++◌, ◌∷◌, List, length, map, take, replicate, true, false, Some, IfSome, IfNone, pos, if◌then◌else◌};
+ghost use Rattle.std.specs.List.{AllByRecursion};
+ghost use Rattle.am_types.specs.Actions as document_actions;
 ghost use Rattle.am_types.specs.declared.Key.{Key};
 ghost use Rattle.am_types.specs.declared.Key.TheVariants.{Elem};
 ghost use Rattle.am_types.specs.declared.OpId.{OpId};
 ghost use Rattle.am_types.specs.declared.Row.{Row};
+ghost use Rattle.am_types.specs.declared.Entry.{Entry};
 ghost use Rattle.am_types.specs.Values.{amount};
 ghost use Rattle.am_types.specs.Views.{entry_of, id_of, key_of, object_of, value_of};
+ghost use Rattle.am_types.specs.Letters.{IsRun};
 ghost use Rattle.am_view.specs.Reads.{is_counter_row};
 ghost use Rattle.am_view.specs.Seen.{seen_by};
 ghost use Rattle.am_view.specs.Steps.{ahead, later, tally, walk};
@@ -20,7 +24,7 @@ use am_fields::{
     ActionColumn, FlagColumn, GroupColumns, IdColumns, KeyColumns, LengthColumn, TextColumn,
     ValueColumns,
 };
-use am_types::{EntryRef, IdRef, KeyRef, ObjRef, ValueRef, slice_known};
+use am_types::{EntryRef, IdRef, KeyRef, ObjRef, ValueRef, actions, kinds, slice_known};
 use am_values::amount_of;
 use std::marker::Model;
 
@@ -90,6 +94,60 @@ fn slot_at<'a>(keys: &mut Deferred<KeyColumns<'a>>, insert: bool, id: IdRef<'a>)
     } else {
         keys.next()
     }
+}
+
+// How many of the next rows, at most so many, are known to be insertions without successors.
+#[inline(always)]
+fn insertions(inserts: &FlagColumn<'_>, lengths: &LengthColumn<'_>, most: u64) -> u64
+    ensures few { result ≤ most }
+    ensures inserts { take result inserts.now ≡ replicate result true }
+    ensures lengths { take result lengths.now ≡ replicate result 0 }
+{
+    let (insert, inserted) = inserts.known_alike();
+    let (length, equal) = lengths.known_alike();
+    if !insert {
+        return 0;
+    }
+    if length > 0 {
+        return 0;
+    }
+    let both = inserted.min(equal);
+    most.min(both)
+}
+
+// How many of the next actions, at most so many, are known to set values.
+#[inline(always)]
+fn settings(actions: &ActionColumn<'_>, most: u64) -> u64
+    requires { most ≤ length actions.now }
+    ensures few { result ≤ most }
+    ensures set { take result actions.now ≡ replicate result document_actions.set }
+{
+    if most == 0 {
+        return 0;
+    }
+    let (action, count) = actions.again().next_alike_within(most);
+    if action != actions::SET {
+        return 0;
+    }
+    count
+}
+
+// How many of the next ids, at most so many, are known to be covered.
+fn covered_ids<'a>(clock: &mut Asked<'a>, ids: &mut Deferred<IdColumns<'a>>, most: u64) -> u64
+    requires { most ≤ length ids.old }
+    ensures same { clock.new ≡ clock.old }
+    ensures ids { ids.new ≡ ids.old }
+    ensures few { result ≤ most }
+    ensures covered { AllByRecursion (λ i. seen_by clock.old i ≡ true) (take result ids.old) }
+{
+    if clock.is_everything() {
+        return most;
+    }
+    if most == 0 {
+        return 0;
+    }
+    let (id, count) = ids.columns().next_rising_within(most);
+    clock.covered(id, count)
 }
 
 impl<'a> Scan<'a> {
@@ -234,5 +292,49 @@ impl<'a> Scan<'a> {
         entry.value = value;
         entry.total = total;
         true
+    }
+
+    /// Passes rows that are known to be letters of inserted elements, as many as stand together, and hands out all but the
+    /// last as bytes. The entry of the last is put into one that is there, in place of what it had. None, and nothing is
+    /// passed, where fewer than two such rows are known to come next.
+    pub fn next_letters(
+        &mut self,
+        clock: &mut Asked<'a>,
+        entry: &mut EntryRef<'a>,
+    ) -> Option<&'a [u8]>
+        ensures same { clock.new ≡ clock.old }
+        ensures none { IfNone result (self.new ≡ self.old) }
+        ensures some { IfSome result (λ letters. (es : List Entry) × (walk (seen_by clock.old) self.old ≡ es ++ entry_of entry.new ∷ walk (seen_by clock.old) self.new) × IsRun es letters.now (entry_of entry.new)) }
+    {
+        let (obj, alike) = self.objects.known_alike();
+        let inserted = insertions(&self.inserts, &self.lengths, alike);
+        let set = settings(&self.actions, inserted);
+        let letters = self.values.again().next_letters(set);
+        let count = covered_ids(clock, &mut self.ids, letters.len() as u64);
+        if count < 2 {
+            return None;
+        }
+        let last = count - 1;
+        self.objects.skip(count);
+        self.keys.pass_many(count);
+        self.ids.pass_many(last);
+        let id = self.ids.next();
+        self.inserts.skip(count);
+        self.actions.skip(count);
+        self.values.skip(count);
+        self.lengths.skip(count);
+        self.succs.pass_many(count);
+        self.expands.skip(count);
+        self.marks.skip(count);
+        entry.obj = obj;
+        entry.slot = KeyRef::Elem(id);
+        entry.id = id;
+        entry.action = actions::SET;
+        entry.value = ValueRef {
+            kind: kinds::TEXT,
+            raw: &letters[last as usize..count as usize],
+        };
+        entry.total = 0;
+        Some(&letters[..last as usize])
     }
 }

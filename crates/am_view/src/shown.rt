@@ -1,5 +1,6 @@
 //! The visible entries at a clock, one after another.
-ghost use Rattle.std.specs.Prelude.{◌≡◌, ◌≤◌, ◌∷◌, [], List, length, IfSome, IfNone, true, false};
+ghost use Rattle.std.specs.Prelude.{◌≡◌, ◌≤◌, ◌++◌, ◌∷◌, [], List, length, IfSome, IfNone, true, false};
+ghost use Rattle.am_types.specs.declared.Entry.{Entry};
 ghost use Rattle.am_types.specs.declared.Hash.{Hash};
 ghost use Rattle.am_types.specs.Ancestors.{ancestors};
 ghost use Rattle.am_types.specs.Members.{Member, changes};
@@ -9,6 +10,7 @@ ghost use Rattle.am_types.specs.Rows as document;
 ghost use Rattle.am_types.specs.ValidSets.{Valid};
 ghost use Rattle.am_types.specs.Views.{entry_of};
 ghost use Rattle.am_graph.specs.Clocks.{covers, IsClockOf};
+ghost use Rattle.am_types.specs.Letters.{IsRun};
 ghost use Rattle.am_view.specs.Seen.{everything};
 ghost use Rattle.am_view.specs.Steps.{walk};
 
@@ -17,22 +19,18 @@ use crate::scan::Scan;
 use am_doc::DocRef;
 use am_doccols::SuccCursor;
 use am_graph::Clock;
-use am_types::{EntryRef, IdRef, KeyRef, ObjRef, ValueRef};
+use am_types::{EntryRef, EntrySource, KeyRef, actions, kinds};
 use std::marker::Model;
 
-/// An entry that says nothing: a place to read entries into.
-pub fn blank_entry<'a>() -> EntryRef<'a> {
-    EntryRef {
-        obj: ObjRef::Root,
-        slot: KeyRef::Head,
-        id: IdRef {
-            counter: 0,
-            actor: &[],
-        },
-        action: 0,
-        value: ValueRef { kind: 0, raw: &[] },
-        total: 0,
+// Whether an entry sets a letter of a list or a text. It tells where it is worth asking for more of them.
+fn is_letter(entry: &EntryRef<'_>) -> bool {
+    if !matches!(entry.slot, KeyRef::Elem(_)) {
+        return false;
     }
+    if entry.action != actions::SET {
+        return false;
+    }
+    entry.value.kind == kinds::TEXT && entry.value.raw.len() == 1
 }
 
 /// The visible entries at a clock, read off the rows of a document one after another. A contract sees those that are left.
@@ -43,6 +41,8 @@ pub struct Shown<'a> {
     clock: Asked<'a>,
     // The successors of the row that was read last. Their place is used again, so that no cursor over them is moved.
     succs: SuccCursor<'a>,
+    // Whether the entry that `next_run` handed out last is a letter, behind which others are likely.
+    is_in_text: bool,
 }
 
 impl<'a> Model for Shown<'a> {
@@ -69,6 +69,7 @@ impl<'a> Shown<'a> {
             rows: Scan::over(doc.rows()),
             clock: Asked::of(clock),
             succs: SuccCursor::none(),
+            is_in_text: false,
         }
     }
 
@@ -83,6 +84,7 @@ impl<'a> Shown<'a> {
             rows: Scan::over(doc.rows()),
             clock: Asked::everything(),
             succs: SuccCursor::none(),
+            is_in_text: false,
         }
     }
 
@@ -112,11 +114,42 @@ impl<'a> Shown<'a> {
         ensures end { IfNone result ((self.old ≡ []) × (self.new ≡ [])) }
         ensures next { IfSome result (λ entry. self.old ≡ entry_of entry ∷ self.new) }
     {
-        let mut entry = blank_entry();
+        let mut entry = EntryRef::blank();
         if self.next_into(&mut entry) {
             Some(entry)
         } else {
             None
         }
+    }
+
+    /// Letters, which may be none, and an entry behind them: it is put into one that is there, in place of what it had. None
+    /// where no entry is left; then nothing is known of what is there. Letters that are runs in every column are handed out
+    /// many at once.
+    pub fn next_run(&mut self, entry: &mut EntryRef<'a>) -> Option<&'a [u8]>
+        ensures end { IfNone result ((self.old ≡ []) × (self.new ≡ [])) }
+        ensures next { IfSome result (λ letters. (es : List Entry) × (self.old ≡ es ++ entry_of entry.new ∷ self.new) × IsRun es letters.now (entry_of entry.new)) }
+    {
+        if self.is_in_text {
+            if let Some(letters) = self.rows.next_letters(&mut self.clock, entry) {
+                return Some(letters);
+            }
+        }
+        if !self.next_into(entry) {
+            return None;
+        }
+        self.is_in_text = is_letter(entry);
+        Some(&[])
+    }
+}
+
+impl<'a> EntrySource<'a> for Shown<'a> {
+    ghost entries = { λ shown. shown };
+
+    fn next_into(&mut self, entry: &mut EntryRef<'a>) -> bool {
+        self.next_into(entry)
+    }
+
+    fn next_run(&mut self, entry: &mut EntryRef<'a>) -> Option<&'a [u8]> {
+        self.next_run(entry)
     }
 }
