@@ -26,19 +26,6 @@ behind_is bytes front rest more size long b e = b ∙ ap (λ k. drop k bytes) lo
 pub fields : {A E : Type 0} (a c : A) (b d : ℕ) → ◌≡◌ {A = Result (A × ℕ) E} (Ok (a, b)) (Ok (c, d)) → (a ≡ c) × (b ≡ d)
 fields {A = A} {E = E} a c b d e = (ap (λ (r : Result (A × ℕ) E). (result_unwrap_or {T = A × ℕ} r (a, 0)).0) e, ap (λ (r : Result (A × ℕ) E). (result_unwrap_or {T = A × ℕ} r (a, 0)).1) e)
 
--- the bytes behind a length
-
-pub prefixed_is : (bytes body text rest : List ℕ) (n : ℕ) → bytes ≡ uleb n ++ body → text ≡ take n body → rest ≡ drop n body → length text ≡ n → bytes ≡ prefixed text ++ rest
-prefixed_is bytes body text rest n e t r l =
-    let joined : body ≡ text ++ rest = sym (ap (λ x. x ++ rest) t ∙ ap (λ x. take n body ++ x) r ∙ take-append-drop n body) in
-    e ∙ ap (λ k. uleb k ++ body) (sym l) ∙ ap (λ x. uleb (length text) ++ x) joined ∙ sym (append_assoc (uleb (length text)) text rest)
-
-pub prefixed_only : (bytes body text rest others more : List ℕ) (n : ℕ) → n ≡ length others → body ≡ others ++ more → text ≡ take n body → rest ≡ drop n body → (text ≡ others) × (rest ≡ more)
-prefixed_only bytes body text rest others more n count e t r = (
-  t ∙ ap (take n) e ∙ take_at others more n (sym count),
-  r ∙ ap (drop n) e ∙ drop_at others more n (sym count),
-)
-
 -- hashes
 
 pub length-hashes_in : (n : ℕ) (bytes : List ℕ) → length (hashes_in n bytes) ≡ n

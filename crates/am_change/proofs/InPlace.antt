@@ -12,7 +12,7 @@ use Rattle.std.proofs.lemmas.List.Elements.{All-from_recursion, All-take, All-dr
 use Rattle.am_types.specs.declared.Op.{Op}
 use Rattle.am_types.specs.declared.Change.{Change}
 use Rattle.am_types.specs.Bytes.{IsBytes, IsHash}
-use Rattle.am_types.specs.Order.{bytes_cmp, hash_cmp, Ascends}
+use Rattle.am_types.specs.Order.{bytes_cmp, hash_cmp}
 use Rattle.am_types.specs.Fine.{FineOp, Fine, pred_count}
 use Rattle.am_colmeta.specs.Metadata.{listing, body}
 use Rattle.am_opcols.specs.Others.{others}
@@ -45,14 +45,6 @@ chain_next before (suc n) rest hash more h f m =
       λ c. subst (λ k. P k (take 32 rest) (drop 32 rest)) s (subst (λ a. P (suc n - 1) a (drop 32 rest)) f (subst (λ b. P (suc n - 1) hash b) m c)),
       λ c. subst (λ b. P (suc n - 1) hash b) (sym m) (subst (λ a. P (suc n - 1) a (drop 32 rest)) (sym f) (subst (λ k. P k (take 32 rest) (drop 32 rest)) (sym s) c)),
     )
-
-pub chain_none : (before : List ℕ) (left : ℕ) (rest : List ℕ) → left ≡ 0 → ChainFrom hash_cmp (hash_with before) (hashes_in left rest)
-chain_none before zero rest e = tt
-chain_none before (suc n) rest e = absurd (cc)
-
-pub no_hashes : (count : ℕ) (bytes : List ℕ) → count ≡ 0 → Chain hash_cmp (hashes_in count bytes)
-no_hashes zero bytes e = tt
-no_hashes (suc n) bytes e = absurd (cc)
 
 length-hashes : (count : ℕ) (bytes : List ℕ) → length (hashes_in count bytes) ≡ count
 length-hashes zero bytes = refl

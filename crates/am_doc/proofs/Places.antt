@@ -41,11 +41,6 @@ pub suffix_none : (heads metas : ℕ) (places : Option (List ℕ)) → IsSuffix 
 suffix_none heads metas None s = refl
 suffix_none heads metas (Some places) s = absurd (no_places places (let l : length places ≡ heads = s.1 in omega (arith, l, s.2)) s.0)
 
--- and where there are no heads, there are no bytes
-pub suffix_no_heads : (metas : ℕ) (bytes : List ℕ) (places : Option (List ℕ)) → 0 < length bytes → IsSuffix 0 metas bytes places → ⊥
-suffix_no_heads metas bytes None filled s = absurd (omega (arith, ap length s))
-suffix_no_heads metas bytes (Some places) filled s = absurd (omega (arith, s.2))
-
 pub suffix_again : (heads metas : ℕ) (bytes : List ℕ) (places : Option (List ℕ)) → metas ≤ 2 ^ 64 → 0 < length bytes → IsSuffix heads metas bytes places
     → (behind first_number heads bytes ≡ Some []) × AllByRecursion (λ i. i < metas) (parts first_number heads bytes) × (places_in heads bytes ≡ places)
 suffix_again heads metas [] places small filled s = absurd (omega arith)

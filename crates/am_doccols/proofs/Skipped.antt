@@ -51,9 +51,6 @@ pub all_mapped : {A B : Type 0} (P : B → Type 0) (f : A → B) (xs : List A) �
 all_mapped P f [] all = tt
 all_mapped P f (x ∷ xs) all = (all.0, all_mapped P f xs all.1)
 
-pub same_first : {A : Type 0} (xs ys zs : List A) (x y : A) → xs ≡ x ∷ ys → xs ≡ y ∷ zs → x ≡ y
-same_first xs ys zs x y e f = cc
-
 pub none_behind : {A : Type 0} (n : ℕ) (xs ys : List A) (x : A) → n ≡ length xs → drop n xs ≡ x ∷ ys → ⊥
 none_behind n xs ys x e f = omega (arith, e, length-drop n xs, ap length f)
 

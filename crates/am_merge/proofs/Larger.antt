@@ -103,9 +103,6 @@ module _ (C E : List Member) (v : Valid C) (w : Valid (C ++ E)) where
   abbrev q : OpId → Bool
   q = covers (ancestors D hs)
 
-  pub covers_old : (id : OpId) → covers (ancestors (C ++ E) (hashes C)) id ≡ covers C id
-  covers_old id = ap (λ A. covers A id) ancestors_old
-
   pub old_part : part (covers (ancestors (C ++ E) (hashes C))) (operations_of (C ++ E)) ≡ operations_of C
   old_part = sym (operations_part D d hs) ∙ ap (λ A. operations_of A) ancestors_old
 

@@ -4,8 +4,8 @@ use Rattle.std.specs.List.{slice_get}
 use Rattle.std.specs.List.Sorted.{IsStrictlySortedBy}
 use Rattle.std.specs.declared.cmp.Ordering.TheVariants.{Less}
 use Rattle.std.proofs.lemmas.Bool.{both_ways}
-use Rattle.std.proofs.lemmas.List.{map-append, take_more, length-map, get_or-map}
-use Rattle.std.proofs.lemmas.List.Elements.{filter_agree, filter-append, Contains-get_or, All-map, All-contains}
+use Rattle.std.proofs.lemmas.List.{map-append, take_more, length-map}
+use Rattle.std.proofs.lemmas.List.Elements.{filter_agree, filter-append, All-contains}
 use Rattle.std.proofs.lemmas.List.Sorted.{Contains-permutation, list_any-IsPermutation, IsPermutation-sym}
 use Rattle.std.proofs.lemmas.Map.Keys.{sorted_head, sorted_tail}
 use Rattle.std.proofs.lemmas.Option.{slice_get-map, slice_get-get_or}
@@ -18,7 +18,6 @@ use Rattle.am_types.specs.Ancestors.{ancestors}
 use Rattle.am_types.specs.Canonical.{canonical_cmp, order}
 use Rattle.am_types.specs.Deliver.{MayCome}
 use Rattle.am_types.specs.Fine.{Fine}
-use Rattle.am_types.specs.ValidSets.{Valid}
 use Rattle.am_types.proofs.Sorting.{IsPermutation-sorted_by}
 use Rattle.am_laws.proofs.SharedAncestors.{ancestors_keep_order}
 use Rattle.am_change.specs.Contents.{chunk}
@@ -27,8 +26,7 @@ use Rattle.am_graph.specs.Graphs.{nodes, is_held}
 use Rattle.am_graph.proofs.Held.{is_held-nodes}
 use Rattle.am_delivery.specs.Waiting.{member_of, members_of}
 use Rattle.am_delivery.proofs.Lists.{Within, Contains-here, Contains-later, found_is, find_none, any_none}
-use Rattle.am_delivery.proofs.Members.{Unique, unique, holds_it, distinct_from_once}
-use Rattle.am_delivery.proofs.Parts.{good_valid}
+use Rattle.am_delivery.proofs.Members.{Unique, holds_it}
 use Rattle.am_store.specs.Saved.{chunk_in}
 use Rattle.am_types.proofs.Orders.{same_hash-true, same_hash_itself}
 use Rattle.am_delivery.proofs.Steady.{absent}
@@ -125,15 +123,6 @@ all_found C one (m ∷ xs) w =
 pub in_order : (C : List Member) → Within (order C) C
 unfolding order
 in_order C m c = Contains-permutation (order C) C m (IsPermutation-sym C (order C) (IsPermutation-sorted_by (canonical_cmp C) C)) c
-
--- each change of the canonical order is found
-pub order_held : (C : List Member) (hs : List Hash) → hs ≡ hashes (order C) → All (λ h. holds C h ≡ true) hs
-order_held C hs e = subst (All (λ h. holds C h ≡ true)) (sym e) (All-map (λ h. holds C h ≡ true) (λ (m : Member). m.hash) (order C) (λ k d l. holds_it C (get_or (order C) k d) (in_order C (get_or (order C) k d) (Contains-get_or (order C) k d l))))
-
-pub in_canonical_order : (C : List Member) → Valid C → (hs : List Hash) (cs : List Change) → hs ≡ hashes (order C) → map (λ c. Some c) cs ≡ map (found C) hs → cs ≡ changes (order C)
-in_canonical_order C v hs cs e found_all =
-    let one = unique C (distinct_from_once C (good_valid C v).once) in
-    some_once cs (changes (order C)) (found_all ∙ ap (map (found C)) e ∙ all_found C one (order C) (in_order C))
 
 -- ---- ancestors
 

@@ -6,15 +6,12 @@ use Rattle.am_types.specs.declared.Hash.{Hash}
 use Rattle.am_types.specs.declared.Change.{Change}
 use Rattle.am_types.specs.Members.{Member, changes}
 use Rattle.am_types.specs.ValidSets.{Valid}
-use Rattle.am_types.specs.Documents.{table}
 use Rattle.am_change.specs.Judgement.{HasOwnHashes}
 use Rattle.am_graph.specs.declared.Node.{Node}
-use Rattle.am_graph.specs.Graphs.{nodes}
 use Rattle.am_fits.specs.declared.Totals.{Totals}
 use Rattle.am_fits.specs.Indexes.{Indexed, AreOf}
 use Rattle.am_delivery.specs.Waiting.{members_of}
-use Rattle.am_doc.specs.Contents.{body}
-use Rattle.am_store.specs.Contents.{IsContents, IsLarger}
+use Rattle.am_store.specs.Contents.{IsContents}
 use Rattle.am_store.specs.Grown.{AreGrown, IsOwn}
 use Rattle.am_store.specs.Staging.{AreStaged}
 
@@ -59,21 +56,3 @@ more_staged written old fresh all before after st E e cs same own is more = reco
   are = map-append (λ (m : Member). m.change) st.added E ∙ (λ i. st.are i ++ same i) ∙ sym more;
   own_hashes = All-append IsOwn st.added E st.own_hashes own;
 }
-
--- at rest, the staged changes make the document that of the whole set
-module _ (written old fresh : List (Hash × Change)) (g : List (Hash × Node)) (ix : Indexed) (t : Totals) (are : AreGrown old fresh g ix t) (bytes : List ℕ) (is : IsContents (members_of written) bytes)
-    (staged : List Change) (st : AreStaged written old staged) (rest : members_of (old ++ fresh) ≡ members_of old) where
-  pub staged_larger : (cs : List Change) → cs ≡ staged → IsLarger bytes cs g (members_of written) st.added
-  staged_larger cs e = record {
-    before = is;
-    valid = subst Valid (rest ∙ st.behind) are.valid;
-    added = st.are ∙ sym e;
-    graph = are.of_set.graph ∙ ap nodes (rest ∙ st.behind);
-  }
-
-  pub staged_contents : (new : List ℕ) → new ≡ body (table (members_of written ++ st.added)) → IsContents (members_of old) new
-  staged_contents new f = record {
-    valid = subst Valid rest are.valid;
-    own_hashes = subst HasOwnHashes (sym st.behind) (All-append IsOwn (members_of written) st.added is.own_hashes st.own_hashes);
-    bytes_are = f ∙ ap (λ C. body (table C)) (sym st.behind);
-  }
