@@ -1,7 +1,11 @@
 //! Outside values: whole changes, read and written back byte for byte, and what is refused.
-use am_change::{ChangeFault, ChangeRef, chunk_of, contents_of, parse_change, with_hashes};
-use am_types::Hash;
-use std::alloc::Global;
+use am_change::{
+    ChangeFault, ChangeRef, HashList, chunk_of, contents_of, parse_change, with_hashes,
+};
+use am_opcols::OpCursor;
+use am_types::{Change, Hash};
+use std::alloc::{AllocError, Global};
+use std::process::Abort;
 use std::test::Fail;
 
 // Sets the name `a` to 1.
@@ -187,22 +191,39 @@ const START: [u8; 39] = [
     0x7f, 0x01, 0x7f, 0x13, 0x01, 0x7f, 0x00,
 ];
 
+// Whether a change is written as these contents.
+fn is_written_as(alloc: Global, change: &Change, bytes: &[u8]) -> Result<bool, ChangeFault> {
+    Ok(contents_of(alloc, change)?.as_slice() == bytes)
+}
+
+// Whether a change that was read in place, and is then owned, is written as these contents.
+fn is_owned_as(alloc: Global, lent: &ChangeRef<'_>, bytes: &[u8]) -> Result<bool, ChangeFault> {
+    let change = lent.to_owned(alloc)?;
+    is_written_as(alloc, &change, bytes)
+}
+
 // Whether the change of these contents, read in place and then owned, is written as the same contents.
 fn is_read_back(alloc: Global, bytes: &[u8]) -> Result<bool, ChangeFault> {
     match ChangeRef::read(bytes) {
         Err(fault) => Err(fault),
-        Ok(lent) => {
-            let change = lent.to_owned(alloc)?;
-            let again = contents_of(alloc, &change)?;
-            Ok(again.as_slice() == bytes)
-        }
+        Ok(lent) => is_owned_as(alloc, &lent, bytes),
     }
 }
 
+fn are_read_back(rt: &impl Abort, alloc: Global, changes: &[&[u8]]) -> Result<(), ChangeFault> {
+    for &bytes in changes {
+        assert!(rt; is_read_back(alloc, bytes)?, "{bytes:?}");
+    }
+    Ok(())
+}
+
 fn fault_of(alloc: Global, bytes: &[u8]) -> Option<ChangeFault> {
-    match parse_change(alloc, bytes) {
-        Ok(_) => None,
-        Err(fault) => Some(fault),
+    parse_change(alloc, bytes).err()
+}
+
+fn are_refused(rt: &impl Abort, alloc: Global, cases: &[(&[u8], Option<ChangeFault>)]) {
+    for &(bytes, fault) in cases {
+        assert_eq!(rt; fault_of(alloc, bytes), fault, "{bytes:?}");
     }
 }
 
@@ -240,10 +261,7 @@ fn reads_changes_and_writes_them_back(rt: HostRuntime) -> Result<(), Fail> {
         &K5,
         &K6,
     ];
-    for &bytes in changes {
-        assert!(rt; is_read_back(rt.alloc(), bytes)?, "{bytes:?}");
-    }
-    Ok(())
+    Ok(are_read_back(&rt, rt.alloc(), changes)?)
 }
 
 #[test]
@@ -266,9 +284,45 @@ fn refuses_what_is_no_change(rt: HostRuntime) {
         (&deflated[..21], compressed),
         (&deflated[..20], bad),
     ];
-    for &(bytes, fault) in cases {
-        assert_eq!(rt; fault_of(rt.alloc(), bytes), fault, "{bytes:?}");
+    are_refused(&rt, rt.alloc(), cases);
+}
+
+fn first_byte(hash: Option<Hash>) -> Option<u8> {
+    match hash {
+        Some(hash) => Some(hash.0[0]),
+        None => None,
     }
+}
+
+fn tells_its_dependencies(rt: &impl Abort, deps: &mut HashList<'_>) {
+    let count = deps.count();
+    let second = first_byte(deps.get(1));
+    let first = first_byte(deps.next());
+    assert_eq!(rt; (count, first, second), (2, Some(0x51), Some(0xd8)));
+    assert_eq!(rt; deps.get(1), None);
+}
+
+fn action_in(ops: &mut OpCursor<'_>) -> Option<u8> {
+    match ops.next() {
+        Some(op) => Some(op.action),
+        None => None,
+    }
+}
+
+// The action of the first operation.
+fn first_action(change: &ChangeRef<'_>) -> Option<u8> {
+    action_in(&mut change.ops())
+}
+
+fn tells_its_numbers(rt: &impl Abort, change: &ChangeRef<'_>) {
+    let numbers = (change.seq(), change.start(), change.time(), change.count());
+    assert_eq!(rt; numbers, (2, 3, -5, 1));
+    assert_eq!(rt; first_action(change), Some(3));
+}
+
+fn tells_its_texts(rt: &impl Abort, change: &ChangeRef<'_>) {
+    let texts = (change.actor(), change.message(), change.extra());
+    assert_eq!(rt; texts, ([0xaa].as_slice(), "hi", [1, 2].as_slice()));
 }
 
 #[test]
@@ -276,25 +330,29 @@ fn tells_the_parts_of_a_change(rt: HostRuntime) {
     let Ok(change) = ChangeRef::read(&NOTED) else {
         panic!(rt; "the change is refused");
     };
-    let mut deps = change.deps();
-    let count = deps.count();
-    let second = deps.get(1).map(|hash| hash.0[0]);
-    let first = deps.next().map(|hash| hash.0[0]);
-    assert_eq!(rt; (count, first, second), (2, Some(0x51), Some(0xd8)));
-    assert_eq!(rt; deps.get(1), None);
-    let numbers = (change.seq(), change.start(), change.time(), change.count());
-    assert_eq!(rt; numbers, (2, 3, -5, 1));
-    let texts = (change.actor(), change.message(), change.extra());
-    assert_eq!(rt; texts, ([0xaa].as_slice(), "hi", [1, 2].as_slice()));
-    assert!(rt; change.ops().next().is_some_and(|op| op.action == 3));
+    tells_its_dependencies(&rt, &mut change.deps());
+    tells_its_numbers(&rt, &change);
+    tells_its_texts(&rt, &change);
+}
+
+// The hash of the only change, as those of all are told.
+fn only_hash(alloc: Global, changes: &[Change; 1]) -> Result<Hash, AllocError> {
+    let pairs = with_hashes(alloc, changes)?;
+    Ok(pairs[0].0)
+}
+
+fn is_chunk(alloc: Global, change: &Change, chunk: &[u8]) -> Result<bool, AllocError> {
+    Ok(chunk_of(alloc, change)?.as_slice() == chunk)
+}
+
+fn makes_both(rt: &impl Abort, alloc: Global, changes: &[Change; 1]) -> Result<(), Fail> {
+    assert!(rt; is_chunk(alloc, &changes[0], &A1_CHUNK)?);
+    assert_eq!(rt; only_hash(alloc, changes)?, Hash(A1_HASH));
+    Ok(())
 }
 
 #[test]
 fn makes_chunk_and_hash(rt: HostRuntime) -> Result<(), Fail> {
-    let change = parse_change(rt.alloc(), &A1)?;
-    let chunk = chunk_of(rt.alloc(), &change)?;
-    assert_eq!(rt; chunk.as_slice(), A1_CHUNK.as_slice());
-    let pairs = with_hashes(rt.alloc(), &[change])?;
-    assert_eq!(rt; pairs[0].0, Hash(A1_HASH));
-    Ok(())
+    let changes = [parse_change(rt.alloc(), &A1)?];
+    makes_both(&rt, rt.alloc(), &changes)
 }

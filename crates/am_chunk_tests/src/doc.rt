@@ -1,5 +1,8 @@
 //! Outside values: documents as the reference encoder and as another producer write them, and damaged ones.
 use am_doc::{DocFault, DocRef};
+use am_doccols::RowCursor;
+use am_types::Hash;
+use std::process::Abort;
 
 // One change of one operation.
 const ONE: [u8; 95] = [
@@ -36,28 +39,51 @@ const NULLS: [u8; 107] = [
     0x7f, 0x01, 0x01, 0x7f, 0x01, 0x7f, 0x13, 0x01, 0x7f, 0x00, 0x00,
 ];
 
+fn fault_of(bytes: &[u8]) -> Option<DocFault> {
+    DocRef::read(bytes).err()
+}
+
+fn has_row(rows: &mut RowCursor<'_>) -> bool {
+    rows.next().is_some()
+}
+
+fn is_one_row(rows: &mut RowCursor<'_>) -> bool {
+    has_row(rows) && !has_row(rows)
+}
+
+fn are_two_rows(rows: &mut RowCursor<'_>) -> bool {
+    has_row(rows) && is_one_row(rows)
+}
+
 // Whether there is one operation row.
 fn has_one_row(doc: &DocRef<'_>) -> bool {
-    let mut rows = doc.rows();
-    rows.next().is_some() && rows.next().is_none()
+    is_one_row(&mut doc.rows())
 }
 
 // Whether there are two operation rows.
 fn has_two_rows(doc: &DocRef<'_>) -> bool {
-    let mut rows = doc.rows();
-    rows.next().is_some() && rows.next().is_some() && rows.next().is_none()
+    are_two_rows(&mut doc.rows())
 }
 
-#[test]
-fn reads_a_document(rt: HostRuntime) {
-    let Ok(doc) = DocRef::read(&ONE) else {
-        assert!(rt; false, "a document");
-        return;
-    };
-    assert!(rt; doc.metas().left() == 1 && has_one_row(&doc));
-    assert!(rt; doc.head_count() == 1 && doc.actor_count() == 1);
+fn meta_count(doc: &DocRef<'_>) -> u64 {
+    doc.metas().left()
+}
+
+// How many change rows, heads and actors there are.
+fn counts(doc: &DocRef<'_>) -> (u64, u64, u64) {
+    (meta_count(doc), doc.head_count(), doc.actor_count())
+}
+
+// The first head, as it is told by the same document again.
+fn first_head(doc: &DocRef<'_>) -> Option<Hash> {
+    doc.again().head(0)
+}
+
+fn is_the_one(rt: &impl Abort, doc: &DocRef<'_>) {
+    assert!(rt; has_one_row(doc));
+    assert_eq!(rt; counts(doc), (1, 1, 1));
     assert!(rt; doc.actor(0) == Some(&[0xaa][..]) && doc.actor(1).is_none());
-    let Some(head) = doc.again().head(0) else {
+    let Some(head) = first_head(doc) else {
         assert!(rt; false, "a head");
         return;
     };
@@ -65,15 +91,32 @@ fn reads_a_document(rt: HostRuntime) {
 }
 
 #[test]
+fn reads_a_document(rt: HostRuntime) {
+    let Ok(doc) = DocRef::read(&ONE) else {
+        panic!(rt; "a document");
+    };
+    is_the_one(&rt, &doc);
+}
+
+fn is_the_foreign(rt: &impl Abort, doc: &DocRef<'_>) {
+    assert!(rt; has_two_rows(doc));
+    assert_eq!(rt; counts(doc), (2, 2, 3));
+    assert!(rt; doc.actor(2) == Some(&[0xcc][..]));
+}
+
+#[test]
 fn reads_another_spelling(rt: HostRuntime) {
     let Ok(doc) = DocRef::read(&FOREIGN) else {
-        assert!(rt; false, "a document");
-        return;
+        panic!(rt; "a document");
     };
-    assert!(rt; doc.metas().left() == 2 && has_two_rows(&doc));
-    assert!(rt; doc.head_count() == 2 && doc.actor_count() == 3);
-    assert!(rt; doc.actor(2) == Some(&[0xcc][..]));
-    assert!(rt; DocRef::read(&[0, 0, 0, 0]).is_ok());
+    is_the_foreign(&rt, &doc);
+    assert_eq!(rt; fault_of(&[0, 0, 0, 0]), None);
+}
+
+fn are_refused(rt: &impl Abort, cases: &[(&[u8], Option<DocFault>)]) {
+    for &(bytes, fault) in cases {
+        assert_eq!(rt; fault_of(bytes), fault, "{bytes:?}");
+    }
 }
 
 #[test]
@@ -92,7 +135,5 @@ fn refuses_what_is_no_document(rt: HostRuntime) {
         (&[], bad),
         (&compressed, Some(DocFault::CompressedColumn)),
     ];
-    for &(bytes, fault) in cases {
-        assert_eq!(rt; DocRef::read(bytes).err(), fault, "{bytes:?}");
-    }
+    are_refused(&rt, cases);
 }

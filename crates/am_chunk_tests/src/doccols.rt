@@ -1,8 +1,9 @@
 //! Outside values: the columns of a document that holds one set key, and of one that holds that key and its deletion;
 //! and columns as other producers write them.
 use am_colmeta::{ActorList, ColumnList, Columns};
-use am_doccols::{MetaCursor, RowCursor, RowRef, SuccCursor};
+use am_doccols::{IndexCursor, MetaCursor, MetaRef, RowCursor, RowRef, SuccCursor};
 use am_types::{KeyRef, ObjRef};
+use std::process::Abort;
 
 const ROW_SPECS: [u64; 16] = [
     1, 2, 17, 19, 21, 33, 35, 52, 66, 86, 87, 128, 129, 131, 148, 165,
@@ -58,97 +59,178 @@ fn metas_of<'a>(metadata: &'a [u8], body: &'a [u8]) -> Option<MetaCursor<'a>> {
     }
 }
 
-#[test]
-fn reads_a_set_key_that_was_deleted(rt: HostRuntime) {
-    let Some(mut rows) = rows_of(&ROWS_METADATA, &ROWS_BODY) else {
-        assert!(rt; false, "one row");
-        return;
-    };
-    let Some(row) = rows.again().next() else {
-        assert!(rt; false, "a row");
-        return;
-    };
+// The first row.
+fn first<'a>(mut rows: RowCursor<'a>) -> Option<RowRef<'a>> {
+    rows.next()
+}
+
+fn has_row(rows: &mut RowCursor<'_>) -> bool {
+    rows.next().is_some()
+}
+
+fn has_meta(metas: &mut MetaCursor<'_>) -> bool {
+    metas.next().is_some()
+}
+
+fn are_rows(metadata: &[u8], body: &[u8]) -> bool {
+    rows_of(metadata, body).is_some()
+}
+
+fn are_metas(metadata: &[u8], body: &[u8]) -> bool {
+    metas_of(metadata, body).is_some()
+}
+
+fn names_a(rt: &impl Abort, row: &RowRef<'_>) {
     assert!(rt; matches!(row.obj, ObjRef::Root) && matches!(row.key, KeyRef::Name("a")));
     assert!(rt; row.id.counter == 1 && row.id.actor == &[0xaa][..] && row.action == 1);
+}
+
+fn sets_a(rt: &impl Abort, row: &RowRef<'_>) {
+    names_a(rt, row);
     assert!(rt; row.value.kind == 3 && row.value.raw == &[0x01][..] && !row.insert && !row.expand);
-    let mut succs = row.succs;
+    assert!(rt; row.mark.is_none());
+}
+
+fn is_one_succ(rt: &impl Abort, succs: &mut SuccCursor<'_>) {
     let Some(succ) = succs.next() else {
         assert!(rt; false, "a successor");
         return;
     };
     assert!(rt; succ.counter == 2 && succ.actor == &[0xaa][..] && succs.next().is_none());
-    assert!(rt; row.mark.is_none() && rows.next().is_some() && rows.next().is_none());
-    assert!(rt; rows_of(&ROWS_METADATA, &ROWS_BODY[..18]).is_none());
+}
+
+fn tells_the_set_key(rt: &impl Abort, rows: &RowCursor<'_>) {
+    let Some(mut row) = first(rows.again()) else {
+        panic!(rt; "a row");
+    };
+    sets_a(rt, &row);
+    is_one_succ(rt, &mut row.succs);
+}
+
+fn is_one_row(rt: &impl Abort, rows: &mut RowCursor<'_>) {
+    assert!(rt; has_row(rows) && !has_row(rows));
+}
+
+#[test]
+fn reads_a_set_key_that_was_deleted(rt: HostRuntime) {
+    assert!(rt; !are_rows(&ROWS_METADATA, &ROWS_BODY[..18]));
     assert!(rt; SuccCursor::none().next().is_none());
+    let Some(mut rows) = rows_of(&ROWS_METADATA, &ROWS_BODY) else {
+        panic!(rt; "one row");
+    };
+    tells_the_set_key(&rt, &rows);
+    is_one_row(&rt, &mut rows);
+}
+
+fn is_blank(rt: &impl Abort, row: &RowRef<'_>) {
+    assert!(rt; row.id.counter == 0 && row.succs.again().next().is_none());
+}
+
+fn reads_into<'a>(rt: &impl Abort, rows: &mut RowCursor<'a>, row: &mut RowRef<'a>) {
+    is_blank(rt, row);
+    assert!(rt; rows.next_into(row));
+    names_a(rt, row);
+    is_one_succ(rt, &mut row.succs);
+    assert!(rt; !rows.next_into(row) && row.id.counter == 1);
 }
 
 // The row that was there is kept behind the last, but for its successors, which were read.
 #[test]
 fn reads_a_row_into_one_that_is_there(rt: HostRuntime) {
     let Some(mut rows) = rows_of(&ROWS_METADATA, &ROWS_BODY) else {
-        assert!(rt; false, "one row");
-        return;
+        panic!(rt; "one row");
     };
-    let mut row = RowRef::blank();
-    assert!(rt; row.id.counter == 0 && row.succs.again().next().is_none());
-    assert!(rt; rows.next_into(&mut row));
-    assert!(rt; matches!(row.obj, ObjRef::Root) && matches!(row.key, KeyRef::Name("a")));
-    assert!(rt; row.id.counter == 1 && row.id.actor == &[0xaa][..] && row.action == 1);
-    let Some(succ) = row.succs.next() else {
-        assert!(rt; false, "a successor");
-        return;
-    };
-    assert!(rt; succ.counter == 2 && row.succs.next().is_none());
-    assert!(rt; !rows.next_into(&mut row) && row.id.counter == 1);
+    reads_into(&rt, &mut rows, &mut RowRef::blank());
+}
+
+// How many rows are left out before one names the counter 1.
+fn unnamed_by_1(rows: &RowCursor<'_>) -> u64 {
+    rows.again().skip_unnamed(&[1])
+}
+
+fn leaves_out(rt: &impl Abort, rows: &mut RowCursor<'_>) {
+    assert!(rt; unnamed_by_1(rows) == 0);
+    assert!(rt; rows.skip_unnamed(&[2]) == 1 && !has_row(rows));
 }
 
 #[test]
 fn leaves_out_what_nobody_names(rt: HostRuntime) {
     let Some(mut rows) = rows_of(&ROWS_METADATA, &ROWS_BODY) else {
-        assert!(rt; false, "one row");
-        return;
+        panic!(rt; "one row");
     };
-    assert!(rt; rows.again().skip_unnamed(&[1]) == 0);
-    assert!(rt; rows.skip_unnamed(&[2]) == 1 && rows.next().is_none());
+    leaves_out(&rt, &mut rows);
+}
+
+// Whether a row has neither value nor successors.
+fn has_nothing(row: &RowRef<'_>) -> bool {
+    row.value.kind == 0 && row.value.raw.is_empty() && row.succs.again().next().is_none()
+}
+
+fn has_bare_row(rows: RowCursor<'_>) -> bool {
+    match first(rows) {
+        Some(row) => has_nothing(&row),
+        None => false,
+    }
 }
 
 #[test]
 fn reads_a_row_without_value_and_successors(rt: HostRuntime) {
     let metadata: [u8; 9] = [0x04, 0x15, 0x03, 0x21, 0x02, 0x23, 0x02, 0x42, 0x02];
     let body: [u8; 9] = [0x7f, 0x01, 0x61, 0x7f, 0x00, 0x7f, 0x01, 0x7f, 0x01];
-    let Some(mut rows) = rows_of(&metadata, &body) else {
-        assert!(rt; false, "one row");
-        return;
+    let Some(rows) = rows_of(&metadata, &body) else {
+        panic!(rt; "one row");
     };
-    let Some(row) = rows.next() else {
-        assert!(rt; false, "a row");
-        return;
+    assert!(rt; has_bare_row(rows), "a row");
+}
+
+// The first change row.
+fn first_meta<'a>(mut metas: MetaCursor<'a>) -> Option<MetaRef<'a>> {
+    metas.next()
+}
+
+fn is_the_first(rt: &impl Abort, first: &MetaRef<'_>) {
+    assert!(rt; first.actor == &[0xaa][..] && first.seq == 1 && first.max == 1 && first.time == 0);
+    assert!(rt; first.message.is_empty() && first.extra.is_empty());
+    assert!(rt; first.deps.again().next().is_none());
+}
+
+fn is_the_second(rt: &impl Abort, second: &MetaRef<'_>) {
+    assert!(rt; second.seq == 2 && second.max == 2);
+}
+
+fn are_of_the_second(rt: &impl Abort, deps: &mut IndexCursor<'_>) {
+    assert!(rt; deps.again().next() == Some(0));
+    assert!(rt; deps.next().is_some() && deps.next().is_none());
+}
+
+fn tells_the_first_meta(rt: &impl Abort, metas: &MetaCursor<'_>) {
+    let Some(first) = first_meta(metas.again()) else {
+        panic!(rt; "a change row");
     };
-    let mut succs = row.succs;
-    assert!(rt; row.value.kind == 0 && row.value.raw.is_empty() && succs.next().is_none());
+    is_the_first(rt, &first);
+}
+
+fn tells_the_second_meta(rt: &impl Abort, metas: &mut MetaCursor<'_>) {
+    let Some(mut second) = metas.next() else {
+        panic!(rt; "a second change row");
+    };
+    is_the_second(rt, &second);
+    are_of_the_second(rt, &mut second.deps);
+}
+
+fn are_two_metas(rt: &impl Abort, metas: &mut MetaCursor<'_>) {
+    tells_the_first_meta(rt, metas);
+    assert!(rt; has_meta(metas));
+    tells_the_second_meta(rt, metas);
+    assert!(rt; !has_meta(metas));
 }
 
 #[test]
 fn reads_two_change_rows(rt: HostRuntime) {
     let Some(mut metas) = metas_of(&METAS_METADATA, &METAS_BODY) else {
-        assert!(rt; false, "two change rows");
-        return;
+        panic!(rt; "two change rows");
     };
-    let Some(first) = metas.again().next() else {
-        assert!(rt; false, "a change row");
-        return;
-    };
-    let mut none = first.deps;
-    assert!(rt; first.actor == &[0xaa][..] && first.seq == 1 && first.max == 1 && first.time == 0);
-    assert!(rt; first.message.is_empty() && first.extra.is_empty() && none.next().is_none());
-    assert!(rt; metas.next().is_some());
-    let Some(second) = metas.next() else {
-        assert!(rt; false, "a second change row");
-        return;
-    };
-    let mut deps = second.deps;
-    assert!(rt; second.seq == 2 && second.max == 2 && deps.again().next() == Some(0));
-    assert!(rt; deps.next().is_some() && deps.next().is_none() && metas.next().is_none());
+    are_two_metas(&rt, &mut metas);
 }
 
 // Times, messages, dependencies and extra bytes may all be left out.
@@ -183,8 +265,8 @@ fn refuses_what_is_no_change_row(rt: HostRuntime) {
     ];
     for &(metadata, body, wrong) in cases {
         assert_eq!(rt;
-            metas_of(metadata, body).is_none(),
-            wrong.is_some(),
+            are_metas(metadata, body),
+            wrong.is_none(),
             "{wrong:?} at {body:?}"
         );
     }

@@ -1,7 +1,8 @@
 //! Outside values: the operations of whole changes, read from their columns and written back.
 use am_colmeta::{ActorList, ColumnList, Columns};
-use am_opcols::OpCursor;
+use am_opcols::{OpCursor, OpRef, PredCursor};
 use am_types::{KeyRef, ObjRef};
+use std::process::Abort;
 
 const KNOWN: [u64; 14] = [1, 2, 17, 19, 21, 52, 66, 86, 87, 112, 113, 115, 148, 165];
 
@@ -31,45 +32,72 @@ fn cursor<'a>(metadata: &'a [u8], body: &'a [u8], others: &'a [u8]) -> Option<Op
     }
 }
 
-#[test]
-fn reads_an_operation(rt: HostRuntime) {
-    let Some(mut ops) = cursor(&METADATA, &BODY, &[0x00]) else {
-        assert!(rt; false, "one operation is spelled");
-        return;
-    };
-    let Some(op) = ops.again().next() else {
-        assert!(rt; false, "one operation is there");
-        return;
-    };
+fn has_op(ops: &mut OpCursor<'_>) -> bool {
+    ops.next().is_some()
+}
+
+// The first operation.
+fn first<'a>(mut ops: OpCursor<'a>) -> Option<OpRef<'a>> {
+    ops.next()
+}
+
+fn sets_a(rt: &impl Abort, op: &OpRef<'_>) {
     assert!(rt; matches!(op.obj, ObjRef::Root));
     assert!(rt; matches!(op.key, KeyRef::Name("a")));
     assert!(rt; !op.insert && !op.expand && op.action == 1 && op.mark.is_none());
     assert!(rt; op.value.kind == 3 && op.value.raw == &[0x02][..]);
-    let mut preds = op.preds;
+}
+
+fn is_one_pred(rt: &impl Abort, preds: &mut PredCursor<'_>) {
     let Some(pred) = preds.next() else {
         assert!(rt; false, "one predecessor is there");
         return;
     };
     assert!(rt; pred.counter == 1 && pred.actor == &[0xaa][..]);
     assert!(rt; preds.next().is_none());
-    assert!(rt; ops.next().is_some());
-    assert!(rt; ops.next().is_none());
+}
+
+fn tells_the_first(rt: &impl Abort, ops: &OpCursor<'_>) {
+    let Some(mut op) = first(ops.again()) else {
+        panic!(rt; "one operation is there");
+    };
+    sets_a(rt, &op);
+    is_one_pred(rt, &mut op.preds);
+}
+
+fn is_one(rt: &impl Abort, ops: &mut OpCursor<'_>) {
+    assert!(rt; has_op(ops));
+    assert!(rt; !has_op(ops));
+}
+
+#[test]
+fn reads_an_operation(rt: HostRuntime) {
+    let Some(mut ops) = cursor(&METADATA, &BODY, &[0x00]) else {
+        panic!(rt; "one operation is spelled");
+    };
+    tells_the_first(&rt, &ops);
+    is_one(&rt, &mut ops);
+}
+
+// Whether an operation can be read from the body.
+fn is_read(body: &[u8]) -> bool {
+    cursor(&METADATA, body, &[0x00]).is_some()
 }
 
 #[test]
 fn refuses_columns(rt: HostRuntime) {
     // A byte of the body, what stands in its place, and what is wrong with that.
-    let cases = [
+    let cases: &[(usize, u8, &str)] = &[
         (5, 0x08, "an action above 7"),
         (12, 0x01, "an actor that isn't listed"),
         (14, 0x00, "a counter of 0"),
         (10, 0x02, "a length without ids"),
     ];
-    for (place, byte, why) in cases {
+    for &(place, byte, why) in cases {
         let mut bad = BODY;
         if let Some(at) = bad.get_mut(place) {
             *at = byte;
         }
-        assert!(rt; cursor(&METADATA, &bad, &[0x00]).is_none(), "{why}");
+        assert!(rt; !is_read(&bad), "{why}");
     }
 }

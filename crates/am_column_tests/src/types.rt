@@ -1,11 +1,12 @@
 //! Each call once: what is built, lent, compared and copied is what was put in.
 use am_types::{
-    ActorFault, ActorId, Bytes, Change, Document, Entry, Hash, IdRef, Key, KeyRef, List, Meta,
-    ObjId, ObjRef, Op, OpId, RawValue, Row, Table, Text, Twin, compare_bytes, compare_ids,
+    ActorFault, ActorId, Bytes, Change, Document, Entry, EntryRef, Hash, IdRef, Key, KeyRef, List,
+    Meta, ObjId, ObjRef, Op, OpId, RawValue, Row, Table, Text, Twin, compare_bytes, compare_ids,
     same_bytes,
 };
 use std::alloc::{AllocError, Global};
 use std::cmp::Ordering;
+use std::process::Abort;
 use std::test::Fail;
 
 fn text(alloc: Global, s: &str) -> Result<Text, AllocError> {
@@ -69,8 +70,8 @@ fn change(alloc: Global) -> Result<Change, ActorFault> {
 }
 
 fn row(alloc: Global) -> Result<Row, ActorFault> {
-    let op = operation(alloc)?;
     let id = id(alloc, 3, &[0xaa])?;
+    let op = operation(alloc)?;
     Ok(Row {
         obj: op.obj,
         key: op.key,
@@ -85,16 +86,18 @@ fn row(alloc: Global) -> Result<Row, ActorFault> {
 }
 
 fn meta(alloc: Global) -> Result<Meta, ActorFault> {
-    let change = change(alloc)?;
+    let actor = ActorId::of(alloc, &[0xaa])?;
+    let message = text(alloc, "first")?;
     let deps = one(alloc, 0)?;
+    let extra = bytes(alloc, &[1, 2])?;
     Ok(Meta {
-        actor: change.actor,
-        seq: change.seq,
+        actor,
+        seq: 1,
         max: 4,
-        time: change.time,
-        message: change.message,
+        time: -5,
+        message,
         deps,
-        extra: change.extra,
+        extra,
     })
 }
 
@@ -191,36 +194,58 @@ fn bytes_go_by_the_first_that_differs(rt: HostRuntime) {
     }
 }
 
+fn is_copied<T: Twin + PartialEq + Drop>(alloc: Global, item: &T) -> Result<bool, AllocError> {
+    Ok(item.copy(alloc)? == *item)
+}
+
+fn change_is_copied(alloc: Global) -> Result<bool, ActorFault> {
+    let change = change(alloc)?;
+    Ok(is_copied(alloc, &change)?)
+}
+
+fn table_is_copied(alloc: Global) -> Result<bool, ActorFault> {
+    let table = table(alloc)?;
+    Ok(is_copied(alloc, &table)?)
+}
+
+fn document_is_copied(alloc: Global) -> Result<bool, ActorFault> {
+    let document = document(alloc)?;
+    Ok(is_copied(alloc, &document)?)
+}
+
 #[test]
 fn copies_equal_what_they_copy(rt: HostRuntime) -> Result<(), Fail> {
-    let alloc = rt.alloc();
-    let change = change(alloc)?;
-    assert!(rt; change.copy(alloc)? == change);
-    let table = table(alloc)?;
-    assert!(rt; table.copy(alloc)? == table);
-    let document = document(alloc)?;
-    assert!(rt; document.copy(alloc)? == document);
+    assert!(rt; change_is_copied(rt.alloc())?);
+    assert!(rt; table_is_copied(rt.alloc())?);
+    assert!(rt; document_is_copied(rt.alloc())?);
     Ok(())
+}
+
+fn is_the_entry(rt: &impl Abort, entry: &EntryRef<'_>) {
+    match (entry.obj, entry.slot) {
+        (ObjRef::Made(obj), KeyRef::Elem(slot)) => {
+            assert!(rt; obj.counter == 1);
+            assert!(rt; obj.actor == b"\xaa".as_slice());
+            assert!(rt; slot.counter == 2);
+        }
+        _ => assert!(rt; false, "another place"),
+    }
+    assert!(rt; entry.id.counter == 3);
+    assert!(rt; (entry.action, entry.value.kind, entry.total) == (1, 8, 10));
+    assert!(rt; entry.value.raw == b"\x0a".as_slice());
+}
+
+fn lends_its_entries(rt: &impl Abort, document: &Document) {
+    assert!(rt; document.entries.len() == 1);
+    for i in 0..document.entries.len() {
+        is_the_entry(rt, &document.entry(i));
+    }
 }
 
 #[test]
 fn lends_what_it_has(rt: HostRuntime) -> Result<(), Fail> {
     let document = document(rt.alloc())?;
-    assert!(rt; document.entries.len() == 1);
-    for i in 0..document.entries.len() {
-        let entry = document.entry(i);
-        match (entry.obj, entry.slot) {
-            (ObjRef::Made(obj), KeyRef::Elem(slot)) => {
-                assert!(rt; obj.counter == 1);
-                assert!(rt; obj.actor == b"\xaa".as_slice());
-                assert!(rt; slot.counter == 2);
-            }
-            _ => assert!(rt; false, "another place"),
-        }
-        assert!(rt; entry.id.counter == 3);
-        assert!(rt; (entry.action, entry.value.kind, entry.total) == (1, 8, 10));
-        assert!(rt; entry.value.raw == b"\x0a".as_slice());
-    }
+    lends_its_entries(&rt, &document);
     Ok(())
 }
 

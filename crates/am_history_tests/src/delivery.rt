@@ -5,7 +5,7 @@ ghost use Rattle.am_history_tests.specs.DeliverySamples.{Kept, sample};
 ghost use Rattle.am_delivery.specs.Waiting.{member_of, members_of, waiting_of};
 
 use crate::sample_set::SampleSet;
-use am_delivery::{Pending, deliver};
+use am_delivery::{Pending, Settled, deliver};
 use am_types::{ActorId, Bytes, Change, Hash, List, Rejected, Text, Why, hash_known, hashes_known};
 use std::alloc::{AllocError, Global};
 use std::collections::BTreeMap;
@@ -164,6 +164,13 @@ fn waiting_bytes(alloc: Global, waiting: &BTreeMap<Hash, Change>) -> Result<Vec<
     Ok(bytes)
 }
 
+/// The bytes of the hashes of those that joined, the first that was rejected, and that there was memory.
+fn told(alloc: Global, settled: &Settled) -> Result<(Vec<u8>, Option<Rejected>, bool), AllocError> {
+    let bytes = joined_bytes(alloc, settled.joined.as_slice())?;
+    let rejected = settled.rejected.as_slice().first().copied();
+    Ok((bytes, rejected, true))
+}
+
 /// Delivers the changes. Answers the bytes of those that join, the first that is rejected, and whether there was memory;
 /// where there was none, the closed set is cut off.
 fn delivered(
@@ -178,11 +185,7 @@ fn delivered(
 {
     let changes = changes(alloc, samples)?;
     match deliver(alloc, closed, waiting, pending, changes) {
-        Ok(settled) => {
-            let bytes = joined_bytes(alloc, settled.joined.as_slice())?;
-            let rejected = settled.rejected.as_slice().first().copied();
-            Ok((bytes, rejected, true))
-        }
+        Ok(settled) => Ok(told(alloc, &settled)?),
         Err(AllocError) => {
             closed.cut();
             Ok((Vec::new(alloc), None, false))

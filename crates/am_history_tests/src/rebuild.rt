@@ -1,9 +1,11 @@
 //! Tests of am_rebuild: documents as the reference encoder writes them, rebuilt, and altered ones that are refused.
 use am_change::{chunk_of, is_fine};
 use am_doc::DocRef;
-use am_rebuild::{RebuildFault, rebuild, rebuild_whole};
-use am_types::Change;
+use am_graph::Graph;
+use am_rebuild::{RebuildFault, Rebuilt, rebuild, rebuild_whole};
+use am_types::{Change, Hash};
 use std::alloc::{AllocError, Global};
+use std::process::Abort;
 use std::test::Fail;
 
 // One change of one operation.
@@ -72,10 +74,10 @@ fn is_chunk(alloc: Global, change: &Change, chunk: &[u8]) -> Result<bool, AllocE
 
 // Why no changes are rebuilt from these contents.
 fn fault_of(alloc: Global, contents: &[u8]) -> Option<RebuildFault> {
-    let Ok(doc) = DocRef::read(contents) else {
-        return None;
-    };
-    rebuild(alloc, doc).err()
+    match DocRef::read(contents) {
+        Ok(doc) => rebuild(alloc, doc).err(),
+        Err(_) => None,
+    }
 }
 
 // Whether these are other heads, with this hash.
@@ -86,24 +88,58 @@ fn is_mismatch(fault: Option<RebuildFault>, hash: &[u8]) -> bool {
     }
 }
 
-#[test]
-fn rebuilds_each_chunk(rt: HostRuntime) -> Result<(), Fail> {
-    let Ok(doc) = DocRef::read(&TEXT) else {
-        panic!(rt; "no document");
-    };
-    let chunks: [&[u8]; 2] = [&TEXT_CHUNK, &EDIT_CHUNK];
-    let whole = rebuild_whole(rt.alloc(), doc.again())?;
-    assert_eq!(rt; whole.entries.len(), 2);
+const CHUNKS: [&[u8]; 2] = [&TEXT_CHUNK, &EDIT_CHUNK];
+
+// The changes of the chunks, each behind the hash of which its chunk has the first bytes.
+fn are_of_chunks(
+    rt: &impl Abort,
+    alloc: Global,
+    entries: &[(Hash, Change)],
+) -> Result<(), AllocError> {
+    assert_eq!(rt; entries.len(), 2);
     for i in 0..2 {
-        assert!(rt; is_chunk(rt.alloc(), &whole.entries[i].1, chunks[i])?);
-        assert!(rt; chunks[i].get(4..8) == Some(&whole.entries[i].0.0[..4]));
+        assert!(rt; is_chunk(alloc, &entries[i].1, CHUNKS[i])?);
+        assert!(rt; CHUNKS[i].get(4..8) == Some(&entries[i].0.0[..4]));
     }
-    assert_eq!(rt; whole.index.totals().operations, 4);
-    let heads = whole.graph.heads(rt.alloc())?;
+    Ok(())
+}
+
+fn has_one_head(rt: &impl Abort, alloc: Global, graph: &Graph) -> Result<(), AllocError> {
+    let heads = graph.heads(alloc)?;
     assert_eq!(rt; heads.len(), 1);
     assert!(rt; heads.as_slice()[0].0.as_slice() == &TEXT[6..38]);
-    assert_eq!(rt; rebuild(rt.alloc(), doc)?.len(), 2);
     Ok(())
+}
+
+fn is_of_chunks(rt: &impl Abort, alloc: Global, whole: &Rebuilt) -> Result<(), AllocError> {
+    are_of_chunks(rt, alloc, whole.entries.as_slice())?;
+    assert_eq!(rt; whole.index.totals().operations, 4);
+    has_one_head(rt, alloc, &whole.graph)
+}
+
+// Rebuilds the changes with their graph and index.
+fn rebuilds_whole(rt: &impl Abort, alloc: Global, doc: DocRef<'_>) -> Result<(), RebuildFault> {
+    let whole = rebuild_whole(alloc, doc)?;
+    Ok(is_of_chunks(rt, alloc, &whole)?)
+}
+
+// Rebuilds the changes alone, and counts them.
+fn count(alloc: Global, doc: DocRef<'_>) -> Result<usize, RebuildFault> {
+    Ok(rebuild(alloc, doc)?.len())
+}
+
+fn rebuilds(rt: &impl Abort, alloc: Global, doc: &DocRef<'_>) -> Result<(), RebuildFault> {
+    rebuilds_whole(rt, alloc, doc.again())?;
+    assert_eq!(rt; count(alloc, doc.again())?, 2);
+    Ok(())
+}
+
+#[test]
+fn rebuilds_each_chunk(rt: HostRuntime) -> Result<(), Fail> {
+    match DocRef::read(&TEXT) {
+        Ok(doc) => Ok(rebuilds(&rt, rt.alloc(), &doc)?),
+        Err(_) => panic!(rt; "no document"),
+    }
 }
 
 #[test]

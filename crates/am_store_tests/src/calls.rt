@@ -1,12 +1,14 @@
 //! The calls of a store, where there is memory. Each stands here once and is called from here, without the contract, so that
-//! the tests are proved quickly.
+//! the tests are proved quickly. So are they with a store in a box: a proof lets go of a box in one step, where a store is
+//! let go part by part.
 use am_store::{HistoryLine, Report, Store};
 use am_types::{Bytes, Hash, List, Twin};
 use std::alloc::Global;
 use std::process::Abort;
 
-pub(crate) fn empty(rt: &impl Abort, alloc: Global) -> Store {
-    Store::new(alloc).expect(rt, "there is memory")
+pub(crate) fn empty(rt: &impl Abort, alloc: Global) -> Box<Store> {
+    let store = Store::new(alloc).expect(rt, "there is memory");
+    Box::new(alloc, store).expect(rt, "there is memory")
 }
 
 pub(crate) fn read(
@@ -54,8 +56,9 @@ pub(crate) fn change(rt: &impl Abort, alloc: Global, store: &Store, hash: &Hash)
     found.expect(rt, "the change is held")
 }
 
-pub(crate) fn copy(rt: &impl Abort, alloc: Global, store: &Store) -> Store {
-    store.copy(alloc).expect(rt, "there is memory")
+pub(crate) fn copy(rt: &impl Abort, alloc: Global, store: &Store) -> Box<Store> {
+    let twin = store.copy(alloc).expect(rt, "there is memory");
+    Box::new(alloc, twin).expect(rt, "there is memory")
 }
 
 pub(crate) fn same_bytes(rt: &impl Abort, here: &[u8], there: &[u8]) {

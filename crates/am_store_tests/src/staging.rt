@@ -25,9 +25,14 @@ const STEPS: &[Step] = &[
     (DELETED, true),
 ];
 
+fn none_staged(rt: &impl Abort, alloc: Global) -> Box<StagedStore> {
+    let staged = StagedStore::new(alloc).expect(rt, "there is memory");
+    Box::new(alloc, staged).expect(rt, "there is memory")
+}
+
 #[test]
 fn staged_changes_are_as_merged_ones(rt: HostRuntime) {
-    let mut staged = StagedStore::new(rt.alloc()).expect(&rt, "there is memory");
+    let mut staged = none_staged(&rt, rt.alloc());
     let mut store = empty(&rt, rt.alloc());
     for step in STEPS {
         let (file, reads) = *step;
@@ -72,7 +77,7 @@ fn settled<'a>(rt: &impl Abort, alloc: Global, staged: &'a mut StagedStore) -> &
 /// A file that is refused leaves what is staged.
 #[test]
 fn refused_files_change_nothing(rt: HostRuntime) {
-    let mut staged = StagedStore::new(rt.alloc()).expect(&rt, "there is memory");
+    let mut staged = none_staged(&rt, rt.alloc());
     let _first = taken(&rt, rt.alloc(), &mut staged, FIRST);
     let _second = taken(&rt, rt.alloc(), &mut staged, SECOND);
     assert!(rt; !staged.is_settled());
