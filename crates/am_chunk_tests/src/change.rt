@@ -1,4 +1,7 @@
 //! Outside values: whole changes, read and written back byte for byte, and what is refused.
+ghost use Rattle.std.specs.Prelude.{All};
+ghost use Rattle.am_types.specs.Fine.{Fine};
+
 use am_change::{
     ChangeFault, ChangeRef, HashList, chunk_of, contents_of, parse_change, with_hashes,
 };
@@ -192,12 +195,16 @@ const START: [u8; 39] = [
 ];
 
 // Whether a change is written as these contents.
-fn is_written_as(alloc: Global, change: &Change, bytes: &[u8]) -> Result<bool, ChangeFault> {
+fn is_written_as(alloc: Global, change: &Change, bytes: &[u8]) -> Result<bool, ChangeFault>
+    requires { Fine change.now }
+{
     Ok(contents_of(alloc, change)?.as_slice() == bytes)
 }
 
 // Whether a change that was read in place, and is then owned, is written as these contents.
-fn is_owned_as(alloc: Global, lent: &ChangeRef<'_>, bytes: &[u8]) -> Result<bool, ChangeFault> {
+fn is_owned_as(alloc: Global, lent: &ChangeRef<'_>, bytes: &[u8]) -> Result<bool, ChangeFault>
+    requires { Fine lent.now }
+{
     let change = lent.to_owned(alloc)?;
     is_written_as(alloc, &change, bytes)
 }
@@ -336,16 +343,22 @@ fn tells_the_parts_of_a_change(rt: HostRuntime) {
 }
 
 // The hash of the only change, as those of all are told.
-fn only_hash(alloc: Global, changes: &[Change; 1]) -> Result<Hash, AllocError> {
+fn only_hash(alloc: Global, changes: &[Change; 1]) -> Result<Hash, AllocError>
+    requires { All Fine changes.now }
+{
     let pairs = with_hashes(alloc, changes)?;
     Ok(pairs[0].0)
 }
 
-fn is_chunk(alloc: Global, change: &Change, chunk: &[u8]) -> Result<bool, AllocError> {
+fn is_chunk(alloc: Global, change: &Change, chunk: &[u8]) -> Result<bool, AllocError>
+    requires { Fine change.now }
+{
     Ok(chunk_of(alloc, change)?.as_slice() == chunk)
 }
 
-fn makes_both(rt: &impl Abort, alloc: Global, changes: &[Change; 1]) -> Result<(), Fail> {
+fn makes_both(rt: &impl Abort, alloc: Global, changes: &[Change; 1]) -> Result<(), Fail>
+    requires { All Fine changes.now }
+{
     assert!(rt; is_chunk(alloc, &changes[0], &A1_CHUNK)?);
     assert_eq!(rt; only_hash(alloc, changes)?, Hash(A1_HASH));
     Ok(())

@@ -58,10 +58,10 @@ fn counted(rt: HostRuntime) -> Result<(), AllocError> {
     let mut writer = RunWriter::<UnsignedItem>::new(rt.alloc());
     let nothing_is_pending = !writer.count_byte(5, 1);
     assert!(rt; UnsignedItem::end(&[5]) == Some(1));
-    writer.push(Some(&[5]))?;
+    writer.push_alike(Some(&[5]), 2)?;
     let another_is = !writer.count_byte(6, 1);
     let it_is = writer.count_byte(5, 2);
-    assert!(rt; writer.finish()?.as_slice() == &[3, 5][..]);
+    assert!(rt; writer.finish()?.as_slice() == &[4, 5][..]);
     assert!(rt; nothing_is_pending && another_is && it_is);
     Ok(())
 }
