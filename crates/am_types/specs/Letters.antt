@@ -2,8 +2,8 @@
 --     IsInserted e          the entry e stands in the slot of the element that its own operation inserted
 --     IsLetter o e b        e is such an entry of the object o, and sets the ASCII letter b
 --     AreLetters o es bs    the entries es are such letters, of the bytes bs
---     IsRun es bs e         es are letters, of the bytes bs, in the object of the entry e, which comes behind them; e is
---                           another inserted element, if there are any
+--     IsRun es bs e         es are letters, of the bytes bs, in the object of the entry e, which comes behind them; e
+--                           stands in the slot of its own element too, if there are any
 use Rattle.std.specs.Prelude.{◌≡◌, ◌<◌, ℕ, List, [], ◌∷◌, ◌⊎◌}
 use Rattle.am_types.specs.Actions as actions
 use Rattle.am_types.specs.Records.{ObjId, Elem, Entry}

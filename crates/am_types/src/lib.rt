@@ -16,6 +16,8 @@ mod known;
 mod limits;
 mod list;
 mod owned;
+mod read_change;
+mod read_op;
 mod refs;
 mod sharing;
 mod text;
@@ -37,6 +39,8 @@ pub use limits::{
     GREATEST_COUNTER, GREATEST_TIME, LONGEST_ACTOR, MOST_BYTES, MOST_CHANGES, MOST_OPERATIONS,
 };
 pub use list::List;
+pub use read_change::ReadChange;
+pub use read_op::ReadOp;
 pub use refs::{EntryRef, IdRef, KeyRef, ObjRef, ValueRef, compare_ids};
 pub use sharing::SharedActors;
 pub use text::Text;
