@@ -1,9 +1,9 @@
 //! Changes, without their operations, in the order in which they came.
 ghost use Rattle.std.specs.Prelude.{◌≡◌, ◌++◌, ◌∷◌, ◌≤◌, ◌+◌, ◌^◌, [], length, List, IfOk, OnOk, OnErr, IfErr, All, true, false, Some, None, if◌then◌else◌};
-ghost use Rattle.am_types.specs.Members.{hashes, holds, heads as heads_of};
+ghost use Rattle.am_types.specs.Members.{hashes, holds};
 ghost use Rattle.am_types.specs.Ancestors.{ancestors};
 ghost use Rattle.am_types.specs.Order.{hash_cmp, sorted_by, Ascends};
-ghost use Rattle.am_graph.specs.Graphs.{nodes, find_node, is_held, missing, ForSet, has, TellsAncestors, is_named_in, MatchFault, MatchMissing, Answers, same_node};
+ghost use Rattle.am_graph.specs.Graphs.{nodes, find_node, is_held, missing, ForSet, has, TellsAncestors, MatchFault, MatchMissing, Answers, same_node};
 ghost use Rattle.am_types.specs.declared.Hash.{Hash};
 
 use crate::fault::{Added, ClockFault, GraphFault};

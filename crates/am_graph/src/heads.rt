@@ -1,5 +1,5 @@
 //! The changes on which none depends.
-ghost use Rattle.std.specs.Prelude.{◌≡◌, ◌<◌, ℕ, Bool, length, replicate, slice_index_or, IfOk, false};
+ghost use Rattle.std.specs.Prelude.{◌≡◌, ◌<◌, ℕ, Bool, length, slice_index_or, IfOk};
 ghost use Rattle.am_types.specs.declared.Hash.{Hash};
 ghost use Rattle.am_types.specs.Members.{heads as heads_of};
 ghost use Rattle.am_graph.specs.declared.node.Node.{Node};
@@ -8,15 +8,6 @@ ghost use Rattle.am_graph.specs.Graphs.{ForSet, is_named_in};
 use crate::graph::{Graph, pick};
 use am_types::{Hash, List};
 use std::alloc::{AllocError, Global};
-
-/// So many marks, none of which is set.
-fn unset(alloc: Global, count: usize) -> Result<Vec<bool>, AllocError>
-    ensures { IfOk result (λ marks. marks.items ≡ replicate count false) }
-{
-    let mut marks: Vec<bool> = Vec::new(alloc);
-    marks.resize(count, false)?;
-    Ok(marks)
-}
 
 impl Graph {
     /// The hashes that no change has as a dependency, ascending.
@@ -39,7 +30,7 @@ impl Graph {
         ensures len { IfOk result (λ named. length named.items ≡ length self.now) }
         ensures named { IfOk result (λ named. (k : ℕ) (b : Bool) (e : Hash × Node) → k < length self.now → slice_index_or named.items k b ≡ is_named_in self.now (slice_index_or self.now k e).0) }
     {
-        let mut named = unset(alloc, self.parts.held.len())?;
+        let mut named = vec![in alloc; false; self.parts.held.len()]?;
         for i in 0..self.parts.held.len() {
             let (_, node) = self.parts.held.get_index(i).unwrap();
             for dep in node.deps.as_slice() {
