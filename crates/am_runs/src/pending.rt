@@ -96,6 +96,19 @@ pub fn is_same(a: &[u8], b: &[u8]) -> bool
     same_bytes(a, b)
 }
 
+// Puts an item in the place of another. Mostly both have as many bytes, and those are copied.
+#[inline(always)]
+fn replace(item: &mut Vec<u8>, by: &[u8]) -> Result<(), AllocError>
+    ensures { OnOk result (item.new.items ≡ by.now) }
+{
+    if item.len() == by.len() {
+        item.as_mut_slice().copy_from_slice(by);
+        return Ok(());
+    }
+    item.clear();
+    item.extend_from_slice(by)
+}
+
 // Begins a literal run with the item.
 fn open_literal<K: Item>(done: &mut Vec<u8>, p: &mut Pending, item: &[u8]) -> Result<(), AllocError>
     requires item { IsItem K.end_of item.now }
@@ -109,8 +122,7 @@ fn open_literal<K: Item>(done: &mut Vec<u8>, p: &mut Pending, item: &[u8]) -> Re
     p.kind = PendingKind::Literal;
     p.count = 0;
     p.front.clear();
-    p.last.clear();
-    p.last.extend_from_slice(item)?;
+    replace(&mut p.last, item)?;
     Ok(())
 }
 
@@ -143,8 +155,7 @@ fn extend_literal<K: Item>(p: &mut Pending, item: &[u8], done: &Vec<u8>) -> Resu
 {
     p.front.extend_from_slice(&p.last)?;
     p.count += 1;
-    p.last.clear();
-    p.last.extend_from_slice(item)?;
+    replace(&mut p.last, item)?;
     Ok(())
 }
 
@@ -250,8 +261,7 @@ pub fn extend_apart<K: Item>(
     p.front.extend_from_slice(&p.last)?;
     p.front.extend_from_slice(&bytes[..found.size])?;
     p.count += found.count;
-    p.last.clear();
-    p.last.extend_from_slice(found.last)?;
+    replace(&mut p.last, found.last)?;
     Ok(())
 }
 

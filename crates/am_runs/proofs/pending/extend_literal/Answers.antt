@@ -1,7 +1,5 @@
-use Rattle.std.proofs.Common.{ap, ◌∙◌, ◌++◌}
 use Rattle.am_runs.proofs.Arms.{literal_more_at}
 use Rattle.am_runs.proofs.pending.extend_literal.Goals as goal
 
 pub returns : goal.returns
-returns g c = λ list h. literal_more_at _ _ _ _ _ _ _ _ _ _ list c.requires.kind c.requires.other c.requires.item c.in_ok-extend_from_slice.ensures.items c.deref.ensures.value
-    (c.in_ok-extend_from_slice-2.ensures.items ∙ ap (λ s. s ++ c.args.item.now) c.clear.ensures.items) h
+returns g c = λ list h. literal_more_at _ _ _ _ _ _ _ _ _ _ list c.requires.kind c.requires.other c.requires.item c.in_ok-extend_from_slice.ensures.items c.deref.ensures.value c.in_ok-replace.ensures h

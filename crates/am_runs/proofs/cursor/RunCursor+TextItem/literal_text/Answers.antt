@@ -1,6 +1,10 @@
 use Rattle.std.proofs.Common.{arith, sym, ◌∙◌}
 use Rattle.am_runs.proofs.Entries.{entries-more, HasEntries-more, never_ends}
+use Rattle.am_runs.proofs.LiteralTexts.{literal_known}
 use Rattle.am_runs.proofs.cursor.RunCursor+TextItem.literal_text.Goals as goal
+
+pub text_behind-requires-clause-known : goal.text_behind-requires-clause-known
+text_behind-requires-clause-known c = literal_known _ _ _ (omega arith) (omega arith) (cc) c.self.invariant
 
 pub invariant_of-self : goal.invariant_of-self
 invariant_of-self c = absurd (never_ends _ _ _ (omega arith) c.in-None.ensures.step c.self.invariant)
