@@ -182,3 +182,11 @@ as_given P value d low high f g h i p =
     (subst (λ x. P (passed value) x low high) (to_z-of_z w64 d g)
     (subst (λ x. P (passed value) (passed d) x high) (to_z-of_z w64 low h)
     (subst (λ x. P (passed value) (passed d) (passed low) x) (to_z-of_z w64 high i) p)))
+
+pub all_null : (low high : ℤ) (k : ℕ) → AllBetween low high (replicate k None)
+all_null low high zero = tt
+all_null low high (suc k) = (tt, all_null low high k)
+
+pub no_sums : (low high value : ℤ) (d : Option ℤ) (k : ℕ) → k ≤ 0 → AllBetween low high (sums_from value (replicate k d))
+no_sums low high value d zero h = tt
+no_sums low high value d (suc k) h = absurd (omega arith)

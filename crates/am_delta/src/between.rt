@@ -1,6 +1,6 @@
 //! Whether sums stay between two bounds, judged run by run.
 ghost use Rattle.std.specs.Prelude.{◌≡◌, ◌≤◌, ℤ, ◌≤ℤ◌, ◌+ℤ◌, ◌*ℤ◌, Some, IfSome, IfNone, pos, ◌↔◌, IsTrue, replicate};
-ghost use Rattle.am_delta.specs.Deltas.{AllBetween, sums_from, sum_after};
+ghost use Rattle.am_delta.specs.Deltas.{AllBetween, sums_from, sum_after, stretch};
 
 use crate::arithmetic::{narrow, times};
 use am_runs::SignedCursor;
@@ -71,6 +71,41 @@ fn all_between(value: i64, difference: Option<i64>, k: u64, low: i64, high: i64)
     match difference {
         None => Some(value),
         Some(difference) => number_between(value, difference, k, low, high),
+    }
+}
+
+// Whether each value of a stretch, the first among them, is null or from low to high.
+fn is_between_from(first: i64, difference: Option<i64>, count: u64, low: i64, high: i64) -> bool
+    ensures { IsTrue result ↔ AllBetween low high (stretch (Some first) difference count) }
+{
+    if first < low {
+        return false;
+    }
+    if first > high {
+        return false;
+    }
+    if count <= 1 {
+        return true;
+    }
+    match all_between(first, difference, count - 1, low, high) {
+        None => false,
+        Some(_) => true,
+    }
+}
+
+/// Whether each value of a stretch that isn't null is from low to high. It costs a few steps, however many they are.
+pub fn is_stretch_between(
+    first: Option<i64>,
+    difference: Option<i64>,
+    count: u64,
+    low: i64,
+    high: i64,
+) -> bool
+    ensures { IsTrue result ↔ AllBetween low high (stretch first difference count) }
+{
+    match first {
+        None => true,
+        Some(first) => is_between_from(first, difference, count, low, high),
     }
 }
 

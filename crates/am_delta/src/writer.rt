@@ -28,6 +28,7 @@ fn put(
                 if differences.count_byte(byte, 1) {
                     return Ok(());
                 }
+                return differences.push(Some(&[byte]));
             }
             item.clear();
             push_i(item, difference)?;
