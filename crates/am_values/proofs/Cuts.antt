@@ -37,21 +37,6 @@ first_is x (suc k) (y ∷ l) h e =
     let t : take k l ≡ replicate k x = cc in
     (l, ap (λ z. z ∷ l) q, subst (λ n. take n l ≡ replicate n x) (let s : k ≡ suc k - 1 = omega arith in s) t)
 
--- past j alike
-pub cut_many : (j k : ℕ) (x : Option ℕ) (list : List (Option ℕ)) (raw rest : List ℕ) → 1 ≤ j → j ≤ k → (j ≡ 1) ⊎ (width x ≡ 0) → take k list ≡ replicate k x → IsCut x raw → rest ≡ drop (width x) raw → AreCut (drop j list) rest ↔ AreCut list raw
-cut_many zero k x list raw rest g h o e c r = absurd (omega arith)
-cut_many (suc zero) k x list raw rest g h o e c r =
-    let w = first_is x k list (omega arith) e in
-    subst (λ l. AreCut (drop 1 l) rest ↔ AreCut l raw) (sym w.1) (cut_one x w.0 raw rest c r)
-cut_many (suc (suc j)) k x list raw rest g h o e c r =
-    let w = first_is x k list (omega arith) e in
-    let z : width x ≡ 0 = ⊎_elim (λ p. absurd (omega arith)) (λ p. p) o in
-    let same : rest ≡ raw = r ∙ ap (λ n. drop n raw) z in
-    let again : rest ≡ drop (width x) rest = sym (ap (λ n. drop n rest) z) in
-    let more = cut_many (suc j) (k - 1) x w.0 rest rest (omega arith) (omega arith) (inr z) w.2 (subst (IsCut x) (sym same) c) again in
-    let one = cut_one x w.0 raw rest c r in
-    subst (λ l. AreCut (drop (suc (suc j)) l) rest ↔ AreCut l raw) (sym w.1) ((λ a. one.0 (more.0 a)), (λ a. more.1 (one.1 a)))
-
 -- ---- what the cursor shows is spelled
 
 pub metadata-value : (m : ℕ) (raw : List ℕ) → m / 16 ≤ length raw → metadata (record { kind = m % 16; raw = take (m / 16) raw }) ≡ m

@@ -1,6 +1,4 @@
 -- When the two columns of values are canonical.
---     past_like           past numbers that are alike and stand
---     first_null          numbers of which the first is null
 --     numbers_are         canonical numbers that are read are canonical for what is read
 --     canonical_of_joined     columns that spell values are canonical where the numbers are
 --     canonical_from, canonical_to     the three tests together tell canonical columns
@@ -22,27 +20,6 @@ use Rattle.am_values.specs.Columns.{metadata, AreGood, JoinsValues, AllGood, spe
 use Rattle.am_values.specs.Cutting.{value_from, values_from, AreCut, NoneNull}
 use Rattle.am_values.proofs.Cuts.{joins_values, cut_spelled, length-values}
 use Rattle.am_values.proofs.Spelling.{spellings-map, joined-map, canonical_is_joined}
-
--- ---- no number is null
-
-all_left : (xs ys : List (Option ℕ)) → NoneNull (xs ++ ys) → NoneNull xs × NoneNull ys
-all_left [] ys h = (tt, h)
-all_left (x ∷ xs) ys h = let w = all_left xs ys h.1 in ((h.0, w.0), w.1)
-
-all_both : (xs ys : List (Option ℕ)) → NoneNull xs → NoneNull ys → NoneNull (xs ++ ys)
-all_both [] ys p q = q
-all_both (x ∷ xs) ys p q = (p.0, all_both xs ys p.1 q)
-
-like_some : (k : ℕ) (x : Option ℕ) → IsSome x → NoneNull (replicate k x)
-like_some zero x h = tt
-like_some (suc k) x h = (h, like_some k x h)
-
-pub past_like : (k : ℕ) (x : Option ℕ) (list : List (Option ℕ)) → IsSome x → take k list ≡ replicate k x → NoneNull (drop k list) ↔ NoneNull list
-past_like k x list h e =
-    let s : list ≡ replicate k x ++ drop k list = sym (take-append-drop k list) ∙ ap (λ l. l ++ drop k list) e in (
-      λ a. subst NoneNull (sym s) (all_both (replicate k x) (drop k list) (like_some k x h) a),
-      λ a. (all_left (replicate k x) (drop k list) (subst NoneNull s a)).1,
-    )
 
 -- ---- the numbers are canonical
 

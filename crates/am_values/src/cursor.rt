@@ -1,9 +1,10 @@
 //! A cursor over the values of two columns.
-ghost use Rattle.std.specs.Prelude.{◌≡◌, ◌<◌, ◌≤◌, ◌+◌, ◌^◌, ◌++◌, ◌∷◌, [], List, Option, Some, length, map, take, drop, IfOk, IfSome, IfNone, OnOk, OnErr};
+ghost use Rattle.std.specs.Prelude.{◌≡◌, ◌<◌, ◌≤◌, ◌+◌, ◌^◌, ◌++◌, ◌∷◌, [], List, Option, Some, false, length, map, take, drop, IfOk, IfSome, IfNone, OnOk, OnErr};
 ghost use Rattle.std.specs.Option.{option_map};
 ghost use Rattle.am_types.specs.declared.RawValue.{RawValue};
 ghost use Rattle.am_types.specs.Views.{value_of};
 ghost use Rattle.am_values.specs.Columns.{JoinsValues, AllGood, given, joined, spellings};
+ghost use Rattle.am_values.specs.Cutting.{NoneNull};
 ghost use Rattle.am_values.specs.Letters.{letter, AreAscii};
 
 use crate::cutting::{are_cut, cut, skipped};
@@ -43,10 +44,26 @@ impl<'a> ValueCursor<'a> {
         ensures ok { IfOk result (λ values. JoinsValues meta.now raw.now values × (length values ≤ most)) }
         ensures err { OnErr result ((values : List (Option RawValue)) → JoinsValues meta.now raw.now values → most < length values) }
     {
+        ValueCursor::opened(meta, raw, most, true)
+    }
+
+    /// The same where no value may be null.
+    pub fn given(meta: &'a [u8], raw: &'a [u8], most: u64) -> Result<Self, BadValue>
+        ensures ok { IfOk result (λ values. JoinsValues meta.now raw.now values × NoneNull values × (length values ≤ most)) }
+        ensures err { OnErr result ((values : List (Option RawValue)) → JoinsValues meta.now raw.now values → NoneNull values → most < length values) }
+    {
+        ValueCursor::opened(meta, raw, most, false)
+    }
+
+    // The same, where nulls may be or not.
+    fn opened(meta: &'a [u8], raw: &'a [u8], most: u64, nulls: bool) -> Result<Self, BadValue>
+        ensures ok { IfOk result (λ values. JoinsValues meta.now raw.now values × (nulls ≡ false → NoneNull values) × (length values ≤ most)) }
+        ensures err { OnErr result ((values : List (Option RawValue)) → JoinsValues meta.now raw.now values → (nulls ≡ false → NoneNull values) → most < length values) }
+    {
         match UnsignedCursor::over(meta, most) {
             Err(_) => Err(BadValue),
             Ok(numbers) => {
-                if are_cut(numbers.again(), raw) {
+                if are_cut(numbers.again(), raw, nulls) {
                     Ok(ValueCursor { numbers, raw })
                 } else {
                     Err(BadValue)

@@ -1,9 +1,10 @@
 //! Cutting values out of the raw bytes by their numbers.
-ghost use Rattle.std.specs.Prelude.{◌≡◌, ◌≤◌, ◌*◌, ◌⊎◌, ◌↔◌, length, take, drop, IfSome, IfNone, IsTrue};
-ghost use Rattle.am_values.specs.Cutting.{AreCut, IsCut, width, values_from};
+ghost use Rattle.std.specs.Prelude.{◌≡◌, ◌≤◌, ◌*◌, ◌%◌, ◌↔◌, Some, false, length, take, drop, IfSome, IfNone, IsSome, IsTrue};
+ghost use Rattle.am_values.specs.Cutting.{AreCut, AreAlikeCut, IsCut, NoneNull, width, values_from};
 
 use crate::good::is_good;
 use am_runs::UnsignedCursor;
+use am_types::{kinds, slice_known};
 
 // The first bytes, and those behind them.
 pub fn cut<'a>(size: u64, raw: &'a [u8]) -> (&'a [u8], &'a [u8])
@@ -38,31 +39,88 @@ fn behind<'a>(number: Option<u64>, raw: &'a [u8]) -> Option<&'a [u8]>
     }
 }
 
-// How many equal numbers can be left out at once: all where the value has no bytes.
-fn steps(number: Option<u64>, count: u64) -> u64
-    requires { 1 ≤ count }
-    ensures least { (1 ≤ result) × (result ≤ count) }
-    ensures empty { (result ≡ 1) ⊎ (width number ≡ 0) }
+// The raw bytes behind so many texts with this number, where all of them are ASCII. It gives up where they aren't.
+fn behind_ascii<'a>(number: u64, count: u64, raw: &'a [u8]) -> Option<&'a [u8]>
+    requires { number % 16 ≡ 6 }
+    ensures { IfSome result (λ rest. AreAlikeCut count (Some number) raw.now × (rest.now ≡ drop (count * width (Some number)) raw.now)) }
 {
-    match number {
-        None => count,
-        Some(number) => { if number / 16 == 0 { count } else { 1 } }
+    slice_known(raw);
+    match count.checked_mul(number / 16) {
+        None => None,
+        Some(size) => {
+            if size > raw.len() as u64 {
+                return None;
+            }
+            let (texts, rest) = raw.split_at(size as usize);
+            if texts.is_ascii() { Some(rest) } else { None }
+        }
     }
 }
 
-// Whether the raw bytes are just those of the values, and each value is good. It takes no more steps than there are
-// bytes in both columns.
-pub fn are_cut(mut numbers: UnsignedCursor<'_>, raw: &[u8]) -> bool
-    ensures { IsTrue result ↔ AreCut numbers.entry raw.now }
+// The raw bytes behind so many values with this number, of which each is looked at.
+fn behind_each<'a>(number: Option<u64>, count: u64, raw: &'a [u8]) -> Option<&'a [u8]>
+    ensures some { IfSome result (λ rest. AreAlikeCut count number raw.now × (rest.now ≡ drop (count * width number) raw.now)) }
+    ensures none { IfNone result (AreAlikeCut count number raw.now → ⊥) }
 {
     let mut rest = raw;
-    while let Some((number, count)) = numbers.like() {
-        match behind(number, rest) {
+    let mut left = count;
+    while left > 0 {
+        rest = behind(number, rest)?;
+        left -= 1;
+    }
+    Some(rest)
+}
+
+// The same. Values without bytes are judged by the first of them, and texts in ASCII by one look at all.
+fn behind_given<'a>(number: u64, count: u64, raw: &'a [u8]) -> Option<&'a [u8]>
+    requires { 1 ≤ count }
+    ensures some { IfSome result (λ rest. AreAlikeCut count (Some number) raw.now × (rest.now ≡ drop (count * width (Some number)) raw.now)) }
+    ensures none { IfNone result (AreAlikeCut count (Some number) raw.now → ⊥) }
+{
+    if number / 16 == 0 {
+        return behind(Some(number), raw);
+    }
+    if count > 1 && number % 16 == u64::from(kinds::TEXT) {
+        if let Some(rest) = behind_ascii(number, count, raw) {
+            return Some(rest);
+        }
+    }
+    behind_each(Some(number), count, raw)
+}
+
+// The same, where nulls may be, which have no bytes.
+fn behind_alike<'a>(number: Option<u64>, count: u64, raw: &'a [u8]) -> Option<&'a [u8]>
+    requires { 1 ≤ count }
+    ensures some { IfSome result (λ rest. AreAlikeCut count number raw.now × (rest.now ≡ drop (count * width number) raw.now)) }
+    ensures none { IfNone result (AreAlikeCut count number raw.now → ⊥) }
+{
+    match number {
+        None => Some(raw),
+        Some(number) => behind_given(number, count, raw),
+    }
+}
+
+// Whether the number isn't null, or nulls may be.
+fn may_stand(number: Option<u64>, nulls: bool) -> bool
+    ensures { IsTrue result ↔ (nulls ≡ false → IsSome number) }
+{
+    if nulls { true } else { number.is_some() }
+}
+
+// Whether the raw bytes are just those of the values, each value is good, and none is null where no null may be. It takes
+// no more steps than there are bytes in both columns.
+pub fn are_cut(mut numbers: UnsignedCursor<'_>, raw: &[u8], nulls: bool) -> bool
+    ensures { IsTrue result ↔ AreCut numbers.entry raw.now × (nulls ≡ false → NoneNull numbers.entry) }
+{
+    let mut rest = raw;
+    while let Some((number, count)) = numbers.next_alike_within(u64::MAX) {
+        if !may_stand(number, nulls) {
+            return false;
+        }
+        match behind_alike(number, count, rest) {
             None => return false,
             Some(behind) => rest = behind,
         }
-        let step = steps(number, count);
-        numbers.skip(step);
     }
     rest.is_empty()
 }

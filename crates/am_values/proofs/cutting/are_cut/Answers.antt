@@ -1,11 +1,24 @@
-use Rattle.std.proofs.Common.{sym, subst}
-use Rattle.am_values.specs.Cutting.{AreCut}
-use Rattle.am_values.proofs.Cuts.{cut_many}
+use Rattle.std.proofs.Common.{arith, subst, refl}
+use Rattle.am_values.specs.Cutting.{AreCut, NoneNull}
+use Rattle.am_values.proofs.Alike.{both_kept, uncut_alike, no_null}
 use Rattle.am_values.proofs.cutting.are_cut.Goals as goal
+
+pub returns-then-not-may_stand : goal.returns-then-not-may_stand
+returns-then-not-may_stand c =
+    let next = c.in-Some.ensures.next in (
+      λ e. absurd (cc),
+      λ w. absurd (cc (c.if-not-may_stand.ensures.1 (λ f. no_null c.in-Some.count c.in-Some.number c.next_alike_within.new.self (omega (arith, next.0)) (subst NoneNull next.2 ((c.loop-number.invariant.1 w).1 f))))),
+    )
+
+pub returns-in-None : goal.returns-in-None
+returns-in-None c =
+    let rest = c.loop-number.rest.now in (
+      λ e. absurd (cc),
+      λ w. absurd (c.in-None.ensures.none (uncut_alike c.in-Some.count c.in-Some.number c.next_alike_within.new.self rest (subst (λ l. AreCut l rest) c.in-Some.ensures.next.2 (c.loop-number.invariant.1 w).0))),
+    )
 
 pub loop-number-preserved : goal.loop-number-preserved
 loop-number-preserved c =
-    let w = cut_many c.steps-step.result c.in-Some.count c.in-Some.number c.loop-number.numbers c.loop-number.rest.now c.in-Some-behind.behind.now c.steps-step.ensures.least.0 c.steps-step.ensures.least.1 c.steps-step.ensures.empty c.in-Some.ensures.like.2 c.in-Some-behind.ensures.some.0 c.in-Some-behind.ensures.some.1 in (
-      λ a. c.loop-number.invariant.0 (w.0 (subst (λ l. AreCut l c.in-Some-behind.behind.now) c.skip.ensures a)),
-      λ a. subst (λ l. AreCut l c.in-Some-behind.behind.now) (sym c.skip.ensures) (w.1 (c.loop-number.invariant.1 a)),
-    )
+    let cut = c.in-Some-behind_alike.ensures.some in
+    let kept = both_kept c.args.nulls c.in-Some.count c.in-Some.number c.next_alike_within.new.self c.loop-number.numbers c.loop-number.rest.now c.in-Some-behind_alike.behind.now c.in-Some.ensures.next.2 (c.if-not-may_stand.ensures.0 refl) cut.0 cut.1 in
+    ((λ a. c.loop-number.invariant.0 (kept.0 a)), (λ a. kept.1 (c.loop-number.invariant.1 a)))

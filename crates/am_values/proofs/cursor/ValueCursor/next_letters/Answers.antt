@@ -1,4 +1,4 @@
-use Rattle.std.proofs.Common.{◌∙◌, ◌++◌, Some, map, take, sym, ap, subst, drop}
+use Rattle.std.proofs.Common.{◌∙◌, ◌++◌, Some, map, sym, ap, subst, drop}
 use Rattle.am_values.specs.Cutting.{AreCut, values_from}
 use Rattle.am_values.specs.Letters.{letter, AreAscii}
 use Rattle.am_values.proofs.CutLetters.{cut_letters}
