@@ -5,6 +5,7 @@ use Rattle.std.proofs.lemmas.List.{take_at, drop_at, take-append-drop}
 use Rattle.std.proofs.lemmas.Bool.Decides.{nat_tests}
 use Rattle.am_leb.specs.Leb.{uleb}
 use Rattle.am_leb.specs.Reading.{first_unsigned}
+use Rattle.am_leb.proofs.OneByte.{first_unsigned-low}
 use Rattle.am_leb.proofs.Answering.{IsBytes, first_unsigned-front, first_unsigned-uleb}
 use Rattle.am_colmeta.specs.Metadata.{pair_bytes, IsPair}
 use Rattle.am_colmeta.specs.Actors.{prefixed, IsPrefixed}
@@ -28,6 +29,10 @@ number_found bytes n rest all e = elim (first_unsigned bytes) as (λ o. first_un
 number_again : (n : ℕ) (rest : List ℕ) → IsNumber n → first_number (uleb n ++ rest) ≡ Some (n, rest)
 number_again n rest h =
     ap (number_by (uleb n ++ rest)) (first_unsigned-uleb n rest h) ∙ ap (λ l. Some (n, l)) (drop_at (uleb n) rest (length (uleb n)) refl)
+
+-- a number of one byte
+pub low_number : (bytes rest : List ℕ) (b : ℕ) → b < 128 → bytes ≡ b ∷ rest → Some (b, rest) ≡ first_number bytes
+low_number bytes rest b h e = ap (λ l. Some (b, l)) (sym (ap (drop 1) e)) ∙ sym (ap (number_by bytes) (first_unsigned-low bytes rest b h e))
 
 pub numbers_back : ReadsBack first_number uleb IsNumber
 numbers_back = record { found = number_found; again = number_again }

@@ -19,8 +19,8 @@ macro_rules! behind {
     }};
 }
 
-// The number that stands first, and the bytes behind it.
-pub fn number_at<'a>(bytes: &'a [u8]) -> Option<(u64, &'a [u8])>
+// The number that stands first, of any length, and the bytes behind it.
+fn longer_number_at<'a>(bytes: &'a [u8]) -> Option<(u64, &'a [u8])>
     ensures read { option_map {U = ℕ × List ℕ} (λ found. (found.0, found.1.now)) result ≡ first_number bytes.now }
     ensures fits { IfSome result (λ found. found.0 < 2 ^ 64) }
 {
@@ -31,6 +31,20 @@ pub fn number_at<'a>(bytes: &'a [u8]) -> Option<(u64, &'a [u8])>
             Some((number, rest))
         }
     }
+}
+
+// The same. Nearly all numbers have one byte, which is read at once.
+#[inline(always)]
+pub fn number_at<'a>(bytes: &'a [u8]) -> Option<(u64, &'a [u8])>
+    ensures read { option_map {U = ℕ × List ℕ} (λ found. (found.0, found.1.now)) result ≡ first_number bytes.now }
+    ensures fits { IfSome result (λ found. found.0 < 2 ^ 64) }
+{
+    if let Some((first, rest)) = bytes.split_first() {
+        if *first < 128 {
+            return Some((u64::from(*first), rest));
+        }
+    }
+    longer_number_at(bytes)
 }
 
 // A specification and a length, and the bytes behind them.

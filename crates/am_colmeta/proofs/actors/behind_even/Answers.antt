@@ -1,4 +1,4 @@
-use Rattle.std.proofs.Common.{◌-◌, ◌*◌, sym, ap, subst, ◌∙◌, IsSome, arith}
+use Rattle.std.proofs.Common.{◌-◌, sym, ap, subst, ◌∙◌, IsSome, arith}
 use Rattle.am_colmeta.specs.Even.{AreEven}
 use Rattle.am_colmeta.specs.Reading.{parts, behind, first_prefixed}
 use Rattle.am_colmeta.proofs.EvenLaws.{even_behind}

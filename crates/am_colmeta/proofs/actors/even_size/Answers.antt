@@ -1,9 +1,9 @@
-use Rattle.std.proofs.Common.{◌≡◌, ◌+◌, ◌-◌, List, ◌∷◌, length, sym, ap, subst, ◌∙◌, arith, length-append}
+use Rattle.std.proofs.Common.{◌≡◌, ◌+◌, ◌-◌, length, sym, ap, subst, ◌∙◌, arith, length-append}
 use Rattle.std.specs.List.{AllByRecursion}
 use Rattle.am_colmeta.specs.Actors.{prefixed}
 use Rattle.am_colmeta.specs.Even.{AreEven}
 use Rattle.am_colmeta.specs.Reading.{parts, first_prefixed}
-use Rattle.am_colmeta.proofs.Counted.{parts-one, ReadsBack}
+use Rattle.am_colmeta.proofs.Counted.{parts-one}
 use Rattle.am_colmeta.proofs.ReadBack.{prefixed_back}
 use Rattle.am_colmeta.proofs.EvenLaws.{even_from}
 use Rattle.am_colmeta.proofs.actors.even_size.Goals as goal
