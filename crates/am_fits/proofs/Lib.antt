@@ -15,3 +15,4 @@ pub mod Covered
 pub mod Adding
 pub mod Cut
 pub mod Firsts
+pub mod ReadLists

@@ -13,23 +13,23 @@ use crate::ancestors::Ancestors;
 use crate::index::OpIndex;
 use crate::known::first_bad;
 use am_graph::{ClockFault, Graph, Reached};
-use am_types::{Change, Hash, Verdict};
+use am_types::{Hash, ReadChange, Verdict};
 use std::alloc::{AllocError, Global};
 
 /// Whether the change fits the set of this graph and this index, or the first reason why it doesn't.
-pub fn fits(
+pub fn fits<C: ReadChange>(
     alloc: Global,
     graph: &Graph,
     index: &OpIndex,
-    change: &Change,
+    change: &C,
 ) -> Result<Verdict, AllocError>
-    requires { MayJoin graph.now index.now change.now }
-    ensures { IfOk result (λ found. ForValid graph.now index.now (λ C. found ≡ verdict C change.now)) }
+    requires { MayJoin graph.now index.now (C.change change.now) }
+    ensures { IfOk result (λ found. ForValid graph.now index.now (λ D. found ≡ verdict D (C.change change.now))) }
 {
-    if let Some(hash) = graph.find(change.actor.as_slice(), change.seq) {
+    if let Some(hash) = graph.find(change.actor().as_slice(), change.seq()) {
         return Ok(Verdict::SeqClash(hash));
     }
-    let reached = match graph.reached(alloc, change.deps.as_slice()) {
+    let reached = match graph.reached(alloc, change.deps()) {
         Ok(reached) => reached,
         Err(ClockFault::NoMemory) => return Err(AllocError),
         Err(ClockFault::UnknownHead(_)) => unreachable!(),
@@ -40,7 +40,7 @@ pub fn fits(
     if let Some(dep) = low_dependency(graph, change) {
         return Ok(Verdict::StartLow(dep));
     }
-    let mut ancestors = Ancestors::new(reached, index, change.actor.as_slice());
+    let mut ancestors = Ancestors::new(reached, index, change.actor().as_slice());
     if let Some(place) = first_bad(&mut ancestors, change) {
         return Ok(Verdict::BadReference(place));
     }
@@ -51,18 +51,18 @@ pub fn fits(
 }
 
 /// Whether the actor's change before this one is not among the ancestors.
-fn has_gap(reached: &Reached<'_>, change: &Change) -> bool
-    ensures { result ≡ (nat_lt 1 change.now.seq && nat_lt (reach_of reached.now change.now.actor).seq (change.now.seq - 1)) }
+fn has_gap<C: ReadChange>(reached: &Reached<'_>, change: &C) -> bool
+    ensures { result ≡ (nat_lt 1 (C.change change.now).seq && nat_lt (reach_of reached.now (C.change change.now).actor).seq ((C.change change.now).seq - 1)) }
 {
-    change.seq > 1 && reached.last_seq(change.actor.as_slice()) < change.seq - 1
+    change.seq() > 1 && reached.last_seq(change.actor().as_slice()) < change.seq() - 1
 }
 
 /// The first dependency that ends at the start or above.
-fn low_dependency(graph: &Graph, change: &Change) -> Option<Hash>
-    ensures { ForSet graph.now (λ C. result ≡ find (λ h. option_map_or (λ m. nat_le change.now.start (max m.change)) (member C h) false) change.now.deps) }
+fn low_dependency<C: ReadChange>(graph: &Graph, change: &C) -> Option<Hash>
+    ensures { ForSet graph.now (λ D. result ≡ find (λ h. option_map_or (λ m. nat_le (C.change change.now).start (max m.change)) (member D h) false) (C.change change.now).deps) }
 {
-    for dep in change.deps.as_slice() {
-        if is_low(graph, dep, change.start) {
+    for dep in change.deps() {
+        if is_low(graph, dep, change.start()) {
             return Some(*dep);
         }
     }

@@ -7,7 +7,7 @@ ghost use Rattle.am_fits.specs.Tables.{facts_in, IsTable};
 
 use crate::table::Table;
 use crate::totals::Totals;
-use am_types::{Change, Twin};
+use am_types::{ReadChange, Twin};
 use std::alloc::{AllocError, Global};
 use std::marker::Model;
 
@@ -49,10 +49,10 @@ impl OpIndex {
 
     /// Takes the change in, which is a valid set together with those that were taken in before. Without memory the
     /// index stays as it was.
-    pub fn admit(&mut self, alloc: Global, change: &Change) -> Result<(), AllocError>
-        requires { MayAdmit self.old change.now }
-        ensures ok { OnOk result (self.new ≡ index_with self.old change.now) }
-        ensures changes { OnOk result (ForChanges self.old (λ cs. self.new ≡ index_of (cs ++ change.now ∷ []))) }
+    pub fn admit<C: ReadChange>(&mut self, alloc: Global, change: &C) -> Result<(), AllocError>
+        requires { MayAdmit self.old (C.change change.now) }
+        ensures ok { OnOk result (self.new ≡ index_with self.old (C.change change.now)) }
+        ensures changes { OnOk result (ForChanges self.old (λ cs. self.new ≡ index_of (cs ++ C.change change.now ∷ []))) }
         ensures err { OnErr result (self.new ≡ self.old) }
     {
         let totals = self.totals.with(change);

@@ -5,12 +5,12 @@ ghost use Rattle.am_types.specs.Actions as actions;
 ghost use Rattle.am_types.specs.Operations.{slot};
 ghost use Rattle.am_types.specs.References.{takes};
 ghost use Rattle.am_types.specs.Same.{same_key};
-ghost use Rattle.am_types.specs.Views.{id_of, object_of};
+ghost use Rattle.am_types.specs.Views.{id_of, key_of, object_of};
 ghost use Rattle.am_fits.specs.Facts.{Fact, fact_of};
 ghost use Rattle.am_fits.specs.Shown.{slot_shown, fact_shown};
 ghost use Rattle.am_fits.specs.Told.{inserts, gives_to};
 
-use am_types::{IdRef, Key, ObjId, ObjRef, Op, actions, same_bytes, same_id, same_object};
+use am_types::{IdRef, KeyRef, ObjRef, ReadOp, actions, same_bytes, same_id, same_object};
 
 /// A slot, borrowed.
 #[derive(Clone, Copy, Debug)]
@@ -30,34 +30,34 @@ pub(crate) struct Seen<'a> {
 }
 
 /// What references ask of the operation with this id.
-pub(crate) fn show<'a>(op: &'a Op, id: IdRef<'a>) -> Seen<'a>
-    ensures { fact_shown result ≡ fact_of (record { id = id_of id.entry; op = op.now }) }
+pub(crate) fn show<'a, O: ReadOp>(op: &'a O, id: IdRef<'a>) -> Seen<'a>
+    ensures { fact_shown result ≡ fact_of (record { id = id_of id.entry; op = O.op op.now }) }
 {
     Seen {
-        object: op.obj.lend(),
+        object: op.obj(),
         slot: show_slot(op, id),
-        action: op.action,
-        insert: op.insert,
+        action: op.action(),
+        insert: op.insert(),
     }
 }
 
 /// What the operation with this id gives a value to.
-pub(crate) fn show_slot<'a>(op: &'a Op, id: IdRef<'a>) -> SlotRef<'a>
-    ensures { slot_shown result ≡ slot (record { id = id_of id.entry; op = op.now }) }
+pub(crate) fn show_slot<'a, O: ReadOp>(op: &'a O, id: IdRef<'a>) -> SlotRef<'a>
+    ensures { slot_shown result ≡ slot (record { id = id_of id.entry; op = O.op op.now }) }
 {
-    if op.insert {
+    if op.insert() {
         return SlotRef::Elem(id);
     }
-    match &op.key {
-        Key::Name(name) => SlotRef::Name(name.as_str().as_bytes()),
-        Key::Head => SlotRef::Head,
-        Key::Elem(id) => SlotRef::Elem(id.lend()),
+    match op.key() {
+        KeyRef::Name(name) => SlotRef::Name(name.as_bytes()),
+        KeyRef::Head => SlotRef::Head,
+        KeyRef::Elem(id) => SlotRef::Elem(id),
     }
 }
 
 /// Whether it makes an object that takes the key.
-pub(crate) fn makes(seen: Option<Seen<'_>>, key: &Key) -> bool
-    ensures { result ≡ option_map_or (λ f. takes f.action key.now) (option_map fact_shown seen.entry) false }
+pub(crate) fn makes(seen: Option<Seen<'_>>, key: KeyRef<'_>) -> bool
+    ensures { result ≡ option_map_or (λ f. takes f.action (key_of key.entry)) (option_map fact_shown seen.entry) false }
 {
     match seen {
         Some(seen) => takes(seen.action, key),
@@ -66,11 +66,11 @@ pub(crate) fn makes(seen: Option<Seen<'_>>, key: &Key) -> bool
 }
 
 /// Whether it inserts into the object.
-pub(crate) fn inserts(seen: Option<Seen<'_>>, object: &ObjId) -> bool
-    ensures { result ≡ option_map_or (inserts object.now) (option_map fact_shown seen.entry) false }
+pub(crate) fn inserts(seen: Option<Seen<'_>>, object: ObjRef<'_>) -> bool
+    ensures { result ≡ option_map_or (inserts (object_of object.entry)) (option_map fact_shown seen.entry) false }
 {
     match seen {
-        Some(seen) => seen.insert && same_object(seen.object, object.lend()),
+        Some(seen) => seen.insert && same_object(seen.object, object),
         None => false,
     }
 }
@@ -90,13 +90,13 @@ pub(crate) fn gives_to(seen: Option<Seen<'_>>, object: ObjRef<'_>, slot: SlotRef
 }
 
 /// Whether what the action makes takes such a key.
-pub(crate) fn takes(action: u8, key: &Key) -> bool
-    ensures { result ≡ takes action key.now }
+pub(crate) fn takes(action: u8, key: KeyRef<'_>) -> bool
+    ensures { result ≡ takes action (key_of key.entry) }
 {
     match key {
-        Key::Name(_) => action == actions::MAKE_MAP || action == actions::MAKE_TABLE,
-        Key::Head => action == actions::MAKE_LIST || action == actions::MAKE_TEXT,
-        Key::Elem(_) => action == actions::MAKE_LIST || action == actions::MAKE_TEXT,
+        KeyRef::Name(_) => action == actions::MAKE_MAP || action == actions::MAKE_TABLE,
+        KeyRef::Head => action == actions::MAKE_LIST || action == actions::MAKE_TEXT,
+        KeyRef::Elem(_) => action == actions::MAKE_LIST || action == actions::MAKE_TEXT,
     }
 }
 

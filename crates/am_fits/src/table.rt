@@ -2,7 +2,7 @@
 ghost use Rattle.std.specs.Prelude.{◌≡◌, ◌++◌, ◌∷◌, ◌+◌, ◌≤◌, ◌<◌, ◌^◌, ℕ, [], All, List, length, map, take, option_map, IfOk, OnOk, OnErr, None, Some, vec_len, vec_capacity};
 ghost use Rattle.am_types.specs.declared.OpId.{OpId};
 ghost use Rattle.am_types.specs.Operations.{operations, slot};
-ghost use Rattle.am_types.specs.Views.{id_of, object_of};
+ghost use Rattle.am_types.specs.Views.{id_of, key_of, object_of};
 ghost use Rattle.am_graph.specs.Reaches.{number};
 ghost use Rattle.am_fits.specs.Facts.{fact_of, facts, fact_with};
 ghost use Rattle.am_fits.specs.Runs.{keys_of, AreNew};
@@ -14,7 +14,7 @@ use crate::runs::{Run, cut_each, enter, make_room, place_of};
 use crate::seen::{Seen, SlotRef};
 use crate::spans::{Span, drop_last};
 use crate::texts::{number, text_at};
-use am_types::{Change, IdRef, Key, ObjId, ObjRef, Op, OpId, same_actor};
+use am_types::{IdRef, KeyRef, ObjRef, ReadChange, ReadOp, same_actor};
 use indexmap::IndexSet;
 use std::alloc::{AllocError, Global};
 
@@ -81,15 +81,15 @@ impl Texts {
         &mut self,
         alloc: Global,
         last: &mut Last<'a>,
-        id: &'a OpId,
+        id: IdRef<'a>,
     ) -> Result<IdKey, AllocError>
         requires { IsLast (words_of self.old) last.old }
         ensures grow { WordsGrow (words_of self.old) (words_of self.new) }
         ensures last { IsLast (words_of self.new) last.new }
-        ensures id { IfOk result (λ k. IsIdOf (words_of self.new) k id.now) }
+        ensures id { IfOk result (λ k. IsIdOf (words_of self.new) k (id_of id.entry)) }
     {
         let counter = id.counter;
-        let actor = id.actor.as_slice();
+        let actor = id.actor;
         if same_actor(actor, last.actor) {
             return Ok(IdKey {
                 author: last.author,
@@ -106,16 +106,16 @@ impl Texts {
         &mut self,
         alloc: Global,
         last: &mut Last<'a>,
-        object: &'a ObjId,
+        object: ObjRef<'a>,
     ) -> Result<ObjectKey, AllocError>
         requires { IsLast (words_of self.old) last.old }
         ensures grow { WordsGrow (words_of self.old) (words_of self.new) }
         ensures last { IsLast (words_of self.new) last.new }
-        ensures object { IfOk result (λ k. IsObjectOf (words_of self.new) k object.now) }
+        ensures object { IfOk result (λ k. IsObjectOf (words_of self.new) k (object_of object.entry)) }
     {
         match object {
-            ObjId::Root => Ok(ObjectKey::Root),
-            ObjId::Made(id) => {
+            ObjRef::Root => Ok(ObjectKey::Root),
+            ObjRef::Made(id) => {
                 let key = self.id(alloc, last, id)?;
                 Ok(ObjectKey::Made(key))
             }
@@ -127,20 +127,20 @@ impl Texts {
         &mut self,
         alloc: Global,
         last: &mut Last<'a>,
-        slot: &'a Key,
+        slot: KeyRef<'a>,
     ) -> Result<SlotKey, AllocError>
         requires { IsLast (words_of self.old) last.old }
         ensures grow { WordsGrow (words_of self.old) (words_of self.new) }
         ensures last { IsLast (words_of self.new) last.new }
-        ensures slot { IfOk result (λ k. IsSlotOf (words_of self.new) k slot.now) }
+        ensures slot { IfOk result (λ k. IsSlotOf (words_of self.new) k (key_of slot.entry)) }
     {
         match slot {
-            Key::Name(name) => {
-                let name = number(alloc, &mut self.names, name.as_str().as_bytes())?;
+            KeyRef::Name(name) => {
+                let name = number(alloc, &mut self.names, name.as_bytes())?;
                 Ok(SlotKey::Name(name))
             }
-            Key::Head => Ok(SlotKey::Head),
-            Key::Elem(id) => {
+            KeyRef::Head => Ok(SlotKey::Head),
+            KeyRef::Elem(id) => {
                 let key = self.id(alloc, last, id)?;
                 Ok(SlotKey::Elem(key))
             }
@@ -148,29 +148,29 @@ impl Texts {
     }
 
     /// What is kept of an operation with the id of this key.
-    fn kept<'a>(
+    fn kept<'a, O: ReadOp>(
         &mut self,
         alloc: Global,
         last: &mut Last<'a>,
         key: IdKey,
-        op: &'a Op,
+        op: &'a O,
     ) -> Result<Kept, AllocError>
         requires { IsLast (words_of self.old) last.old }
         ensures grow { WordsGrow (words_of self.old) (words_of self.new) }
         ensures last { IsLast (words_of self.new) last.new }
-        ensures fact { IfOk result (λ kept. (i : OpId) → IsIdOf (words_of self.old) key i → IsFactOf (words_of self.new) kept (fact_of (record { id = i; op = op.now }))) }
+        ensures fact { IfOk result (λ kept. (i : OpId) → IsIdOf (words_of self.old) key i → IsFactOf (words_of self.new) kept (fact_of (record { id = i; op = O.op op.now }))) }
     {
-        let object = self.object(alloc, last, &op.obj)?;
-        let slot = if op.insert {
+        let object = self.object(alloc, last, op.obj())?;
+        let slot = if op.insert() {
             SlotKey::Elem(key)
         } else {
-            self.slot(alloc, last, &op.key)?
+            self.slot(alloc, last, op.key())?
         };
         Ok(Kept {
             object,
             slot,
-            action: op.action,
-            insert: op.insert,
+            action: op.action(),
+            insert: op.insert(),
         })
     }
 
@@ -254,18 +254,18 @@ impl Table {
     }
 
     /// Adds the operations of the change, all of them or, without memory, none.
-    pub fn add(&mut self, alloc: Global, change: &Change) -> Result<(), AllocError>
+    pub fn add<C: ReadChange>(&mut self, alloc: Global, change: &C) -> Result<(), AllocError>
         requires table { IsTable self.old }
-        requires new { All (λ x. fact_with (facts_in self.old) x.id ≡ None) (operations change.now) }
-        requires end { change.now.start + length change.now.ops ≤ 2 ^ 53 }
+        requires new { All (λ x. fact_with (facts_in self.old) x.id ≡ None) (operations (C.change change.now)) }
+        requires end { (C.change change.now).start + length (C.change change.now).ops ≤ 2 ^ 53 }
         ensures table { IsTable self.new }
-        ensures ok { OnOk result (facts_in self.new ≡ facts_in self.old ++ facts (operations change.now)) }
+        ensures ok { OnOk result (facts_in self.new ≡ facts_in self.old ++ facts (operations (C.change change.now))) }
         ensures err { OnErr result (facts_in self.new ≡ facts_in self.old) }
     {
-        if change.ops.as_slice().is_empty() {
+        if change.ops().is_empty() {
             return Ok(());
         }
-        let author = number(alloc, &mut self.texts.authors, change.actor.as_slice())?;
+        let author = number(alloc, &mut self.texts.authors, change.actor().as_slice())?;
         make_room(alloc, &mut self.runs, author)?;
         self.spans.reserve(1)?;
         let count = self.kept.len();
@@ -280,23 +280,28 @@ impl Table {
 
     /// Adds the operations of a change of the author. Without memory there may be more behind what is kept, and nothing
     /// else has changed.
-    fn join(&mut self, alloc: Global, author: usize, change: &Change) -> Result<(), AllocError>
+    fn join<C: ReadChange>(
+        &mut self,
+        alloc: Global,
+        author: usize,
+        change: &C,
+    ) -> Result<(), AllocError>
         requires table { IsTable self.old }
-        requires author { number (words_of self.old.texts).authors change.now.actor ≡ Some author }
-        requires new { AreNew (keys_of self.old.spans.items) (record { author = author; start = change.now.start; count = length change.now.ops }) }
-        requires some { 1 ≤ length change.now.ops }
-        requires end { change.now.start + length change.now.ops ≤ 2 ^ 53 }
+        requires author { number (words_of self.old.texts).authors (C.change change.now).actor ≡ Some author }
+        requires new { AreNew (keys_of self.old.spans.items) (record { author = author; start = (C.change change.now).start; count = length (C.change change.now).ops }) }
+        requires some { 1 ≤ length (C.change change.now).ops }
+        requires end { (C.change change.now).start + length (C.change change.now).ops ≤ 2 ^ 53 }
         requires runs { author < length self.old.runs.items }
         requires spans { vec_len self.old.spans < vec_capacity self.old.spans }
         ensures table { OnOk result (IsTable self.new) }
-        ensures ok { OnOk result (facts_in self.new ≡ facts_in self.old ++ facts (operations change.now)) }
+        ensures ok { OnOk result (facts_in self.new ≡ facts_in self.old ++ facts (operations (C.change change.now))) }
         ensures grow { WordsGrow (words_of self.old.texts) (words_of self.new.texts) }
         ensures err { OnErr result (IsLonger self.old self.new) }
     {
         let run = Run {
-            start: change.start,
+            start: change.start(),
             first: self.kept.len(),
-            count: change.ops.as_slice().len(),
+            count: change.ops().len(),
         };
         keep_each(alloc, &mut self.texts, &mut self.kept, author, change)?;
         enter(&mut self.runs[author], run)?;
@@ -342,29 +347,29 @@ impl Table {
 }
 
 /// Keeps each operation of a change of the author behind what is kept; without memory only some of them.
-fn keep_each(
+fn keep_each<C: ReadChange>(
     alloc: Global,
     texts: &mut Texts,
     kept: &mut Vec<Kept>,
     author: usize,
-    change: &Change,
+    change: &C,
 ) -> Result<(), AllocError>
-    requires author { number (words_of texts.old).authors change.now.actor ≡ Some author }
-    requires end { change.now.start + length change.now.ops ≤ 2 ^ 53 }
+    requires author { number (words_of texts.old).authors (C.change change.now).actor ≡ Some author }
+    requires end { (C.change change.now).start + length (C.change change.now).ops ≤ 2 ^ 53 }
     ensures grow { WordsGrow (words_of texts.old) (words_of texts.new) }
     ensures begins { (rest : List Kept) × (kept.new.items ≡ kept.old.items ++ rest) }
-    ensures ok { OnOk result (KeepsEach (words_of texts.new) author change.now (length change.now.ops) kept.old.items kept.new.items) }
+    ensures ok { OnOk result (KeepsEach (words_of texts.new) author (C.change change.now) (length (C.change change.now).ops) kept.old.items kept.new.items) }
 {
-    let ops = change.ops.as_slice();
+    let ops = change.ops();
     kept.reserve(ops.len())?;
     let mut last = Last {
-        actor: change.actor.as_slice(),
+        actor: change.actor().as_slice(),
         author,
     };
     for i in 0..ops.len() {
         let key = IdKey {
             author,
-            counter: change.start + i as u64,
+            counter: change.start() + i as u64,
         };
         let one = texts.kept(alloc, &mut last, key, &ops[i])?;
         kept.push(one)?;

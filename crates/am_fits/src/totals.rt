@@ -1,9 +1,9 @@
 //! How many changes a set has, and how many operations, predecessors and dependencies they have in all.
-ghost use Rattle.std.specs.Prelude.{◌≡◌, ◌≤◌, ◌^◌};
+ghost use Rattle.std.specs.Prelude.{◌≡◌, ◌≤◌, ◌^◌, map};
 ghost use Rattle.am_types.specs.Fine.{pred_count};
 ghost use Rattle.am_fits.specs.Sums.{totals_of, totals_with, limit_of, AreWithinLimits, IsWithinLimits};
 
-use am_types::{Change, Limit, MOST_CHANGES, MOST_OPERATIONS, Op};
+use am_types::{Limit, MOST_CHANGES, MOST_OPERATIONS, ReadChange, ReadOp};
 
 /// What the changes of a set have in all.
 #[derive(Clone, Copy, Debug, PartialEq, Eq)]
@@ -20,16 +20,16 @@ pub struct Totals {
 
 impl Totals {
     /// Those of the set and of one more change.
-    pub(crate) fn with(&self, change: &Change) -> Totals
+    pub(crate) fn with<C: ReadChange>(&self, change: &C) -> Totals
         requires set { AreWithinLimits self.now }
-        requires change { IsWithinLimits change.now }
-        ensures { result ≡ totals_with self.now change.now }
+        requires change { IsWithinLimits (C.change change.now) }
+        ensures { result ≡ totals_with self.now (C.change change.now) }
     {
         Totals {
             changes: self.changes + 1,
-            operations: self.operations + change.ops.len() as u64,
-            preds: self.preds + pred_count(change.ops.as_slice()),
-            links: self.links + change.deps.len() as u64,
+            operations: self.operations + change.ops().len() as u64,
+            preds: self.preds + pred_count(change.ops()),
+            links: self.links + change.deps().len() as u64,
         }
     }
 
@@ -52,13 +52,13 @@ impl Totals {
 }
 
 /// How many predecessors the operations have in all.
-fn pred_count(ops: &[Op]) -> u64
-    requires { pred_count ops.now ≤ 2 ^ 22 }
-    ensures { result ≡ pred_count ops.now }
+fn pred_count<O: ReadOp>(ops: &[O]) -> u64
+    requires { pred_count (map O.op ops.now) ≤ 2 ^ 22 }
+    ensures { result ≡ pred_count (map O.op ops.now) }
 {
     let mut count = 0;
     for op in ops {
-        count += op.preds.len() as u64;
+        count += op.pred_count() as u64;
     }
     count
 }
