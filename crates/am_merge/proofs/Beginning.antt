@@ -100,7 +100,7 @@ module _ (o : ObjId) where
           let low : is_gt (id_cmp x.id y.id) ≡ false = All-contains (λ w. is_gt (operation_cmp x w) ≡ false) xs y (All-from_recursion (λ w. is_gt (operation_cmp x w) ≡ false) xs r.0) c in
           insertions_by_id o (row_of [] x) y a.obj b.obj a.inserts (ap name_in a.key) b.inserts (ap name_in b.key) ∙ other_way x.id y.id apart low
 
-rises_filtered : (p : Operation → Bool) (xs : List Operation) → Rises operation_total xs → Rises operation_total (filter p xs)
+pub rises_filtered : (p : Operation → Bool) (xs : List Operation) → Rises operation_total xs → Rises operation_total (filter p xs)
 rises_filtered p [] r = tt
 rises_filtered p (x ∷ xs) r = elim (cases_Bool (p x)) [
   | inl t ↦ simp t (none x xs r.0, rises_filtered p xs r.1)

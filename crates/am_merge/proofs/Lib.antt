@@ -46,3 +46,7 @@ pub mod Unnamed
 pub mod Carried
 pub mod RowsText
 pub mod Fronts
+pub mod Stretched
+pub mod Linked
+pub mod Counted
+pub mod Starting

@@ -18,7 +18,7 @@ use Rattle.am_merge.proofs.Places.{object_total}
 
 -- ---- the order is total
 
-falling_total : IsTotalOrder falling_cmp
+pub falling_total : IsTotalOrder falling_cmp
 falling_total = record {
   antisymm = λ x y. id_total.antisymm y x;
   trans = λ x y z p q. id_total.trans z y x q p;

@@ -15,3 +15,5 @@ pub mod Laws
 pub mod Grown
 pub mod Growing
 pub mod Fronts
+pub mod Stretches
+pub mod Starts

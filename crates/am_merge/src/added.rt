@@ -1,12 +1,13 @@
 //! The operations of added changes, and what the walk over rows takes of them.
 ghost use Rattle.std.specs.Prelude.{◌≡◌, ◌∷◌, ◌++◌, [], All, IfOk, OnOk, filter, map, reverse};
 ghost use Rattle.am_types.specs.Operations.{operations, all_operations, ascending};
-ghost use Rattle.am_places.specs.Numbered.{operation_of, by_id};
+ghost use Rattle.am_places.specs.Numbered.{operation_of};
 ghost use Rattle.am_places.specs.Sound.{HasRoom};
 ghost use Rattle.am_merge.specs.Walk.{beginning, starts};
 ghost use Rattle.am_merge.specs.Stacks.{stacked};
 
 use crate::starts::{Start, sort_starts};
+use crate::stretches::{Counted, sort_counted};
 use am_places::Numbered;
 use am_types::actions::DELETE;
 use am_types::{Change, Key, compare_ids};
@@ -42,15 +43,27 @@ fn gather<'a>(alloc: Global, changes: &[&'a Change]) -> Result<Vec<Numbered<'a>>
     Ok(all)
 }
 
+impl<'a> Counted for Numbered<'a> {
+    ghost use Rattle.am_places.specs.Numbered.{by_id};
+
+    ghost counter_of = { λ x. x.counter };
+
+    ghost order = { by_id };
+
+    fn counter(&self) -> u64 {
+        self.counter
+    }
+
+    fn compare(&self, other: &Self) -> Ordering {
+        compare_ids(self.id(), other.id())
+    }
+}
+
 // In ascending id.
 fn sort_operations(all: &mut Vec<Numbered<'_>>) -> Result<(), AllocError>
     ensures { OnOk result (map operation_of all.new.items ≡ ascending (map operation_of all.old.items)) }
 {
-    all.sort_by(
-        |a: &Numbered<'_>, b: &Numbered<'_>| -> Ordering
-            ensures { result ≡ by_id a.now b.now }
-        { compare_ids(a.id(), b.id()) },
-    )?;
+    sort_counted(all)?;
     Ok(())
 }
 
@@ -131,6 +144,7 @@ pub fn beginning<'a>(
     alloc: Global,
     operations: &[Numbered<'a>],
 ) -> Result<Vec<Numbered<'a>>, AllocError>
+    requires { ascending (map operation_of operations.now) ≡ map operation_of operations.now }
     ensures { IfOk result (λ all. stacked all.items ≡ beginning (map operation_of operations.now)) }
 {
     let mut starts = starting(alloc, operations)?;

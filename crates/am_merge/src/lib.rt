@@ -18,6 +18,7 @@ mod rows;
 mod spot;
 mod starts;
 mod stops;
+mod stretches;
 mod suffix;
 mod walk;
 

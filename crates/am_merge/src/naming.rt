@@ -11,6 +11,7 @@ ghost use Rattle.am_merge.specs.Walk.{gives_value, hanging, inserts};
 ghost use Rattle.am_merge.specs.declared.naming.Naming.{Naming as ANaming};
 
 use crate::guide::Guide;
+use crate::stretches::{Counted, sort_counted};
 use am_places::Numbered;
 use am_types::actions::DELETE;
 use am_types::{IdRef, Key, ObjRef, compare_actors, compare_objects};
@@ -163,15 +164,27 @@ fn compare_named(n: &Naming<'_>, obj: ObjRef<'_>, id: IdRef<'_>) -> Ordering
     }
 }
 
+impl<'a> Counted for Naming<'a> {
+    ghost use Rattle.am_merge.specs.Naming.{named_cmp, named_of};
+
+    ghost counter_of = { λ n. n.id.counter };
+
+    ghost order = { λ m n. named_cmp (named_of m) (named_of n) };
+
+    fn counter(&self) -> u64 {
+        self.id.counter
+    }
+
+    fn compare(&self, other: &Self) -> Ordering {
+        compare_named(self, other.obj, other.id)
+    }
+}
+
 /// Sorts a table by what is named. What names the same stays in order.
 pub fn sort_namings(all: &mut Vec<Naming<'_>>) -> Result<(), AllocError>
     ensures { OnOk result (map named_of all.new.items ≡ sorted_by named_cmp (map named_of all.old.items)) }
 {
-    all.sort_by(
-        |a: &Naming<'_>, b: &Naming<'_>| -> Ordering
-            ensures { result ≡ named_cmp (named_of a.now) (named_of b.now) }
-        { compare_named(a, b.obj, b.id) },
-    )?;
+    sort_counted(all)?;
     Ok(())
 }
 

@@ -46,6 +46,7 @@ fn tables_of<'a>(alloc: Global, operations: &[Numbered<'a>]) -> Result<Tables<'a
 
 // The walk before the first row.
 fn start<'a>(alloc: Global, operations: &[Numbered<'a>]) -> Result<Walk<'a>, AllocError>
+    requires { ascending (map operation_of operations.now) ≡ map operation_of operations.now }
     ensures few { IfOk result (λ w. w.skipped ≡ 0) }
     ensures left { IfOk result (λ w. w.left ≡ 4194304) }
     ensures waiting { IfOk result (λ w. waiting_of w ≡ beginning (map operation_of operations.now)) }
@@ -67,7 +68,8 @@ fn walk_all<'a>(
     tables: &Tables<'a>,
     rows: &RowCursor<'_>,
 ) -> Result<Walk<'a>, AllocError>
-    requires { length rows.now ≤ 2 ^ 22 }
+    requires ascends { ascending (map operation_of operations.now) ≡ map operation_of operations.now }
+    requires few { length rows.now ≤ 2 ^ 22 }
     ensures { IfOk result (λ w. AreTables (map operation_of operations.now) tables.now
         → done_in tables.now.named.items w ≡ walked (map operation_of operations.now) rows.now 4194304 (beginning (map operation_of operations.now))) }
 {

@@ -5,6 +5,7 @@ ghost use Rattle.am_types.specs.Order.{bytes_cmp};
 ghost use Rattle.am_types.specs.Views.{id_of, key_of};
 ghost use Rattle.am_places.specs.Numbered.{operation_of};
 ghost use Rattle.am_merge.specs.Spots.{spot_in};
+ghost use Rattle.am_merge.specs.Starts.{turn_cmp};
 ghost use Rattle.am_merge.specs.Walk.{falling_id, id_turn_cmp, lane_cmp, lane_of, name_in, rising_id, spot_cmp, spot_of};
 
 use am_places::Numbered;
@@ -126,12 +127,12 @@ pub fn spot<'a>(x: &Numbered<'a>) -> SpotRef<'a>
     }
 }
 
-/// The turns of two operations compared, of which most are no insertions.
+/// The turns of two operations compared, of which most are no insertions: only those of insertions count.
 pub fn compare_turns_of(a: &Numbered<'_>, b: &Numbered<'_>) -> Ordering
-    ensures { result ≡ id_turn_cmp (spot_of (operation_of a.now)) (spot_of (operation_of b.now)) }
+    ensures { result ≡ turn_cmp (spot_of (operation_of a.now)) (spot_of (operation_of b.now)) }
 {
     if a.op.insert || b.op.insert {
-        return compare_turns(&spot(a), &spot(b));
+        return compare_ids(falling(&spot(b)), falling(&spot(a)));
     }
-    compare_ids(a.id(), b.id())
+    Ordering::Equal
 }

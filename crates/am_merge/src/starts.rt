@@ -4,7 +4,8 @@ ghost use Rattle.std.specs.Ordering.{nat_cmp, ordering_then};
 ghost use Rattle.am_types.specs.Order.{bytes_cmp, object_cmp, sorted_by};
 ghost use Rattle.am_places.specs.Numbered.{operation_of};
 ghost use Rattle.am_merge.specs.Fronts.{is_root};
-ghost use Rattle.am_merge.specs.Walk.{by_spot, id_turn_cmp, lane_cmp, lane_of, name_in, spot_of};
+ghost use Rattle.am_merge.specs.Starts.{by_start, start_lane_cmp, turn_cmp};
+ghost use Rattle.am_merge.specs.Walk.{lane_of, name_in, spot_of};
 
 use crate::front::{compare_behind, front};
 use crate::spot::compare_turns_of;
@@ -92,7 +93,7 @@ fn compare_names(a: &Start<'_>, b: &Start<'_>) -> Ordering
 
 // Within one lane.
 fn compare_in_lane(a: &Start<'_>, b: &Start<'_>) -> Ordering
-    ensures { result ≡ ordering_then (bytes_cmp (name_in a.now.op.key) (name_in b.now.op.key)) (id_turn_cmp (spot_of a.now) (spot_of b.now)) }
+    ensures { result ≡ ordering_then (bytes_cmp (name_in a.now.op.key) (name_in b.now.op.key)) (turn_cmp (spot_of a.now) (spot_of b.now)) }
 {
     match compare_names(a, b) {
         Ordering::Less => Ordering::Less,
@@ -110,7 +111,7 @@ fn compare_lanes(a: &Start<'_>, b: &Start<'_>) -> Ordering
 
 // Within one object.
 fn compare_in_object(a: &Start<'_>, b: &Start<'_>) -> Ordering
-    ensures { result ≡ lane_cmp (spot_of a.now) (spot_of b.now) }
+    ensures { result ≡ start_lane_cmp (spot_of a.now) (spot_of b.now) }
 {
     match compare_lanes(a, b) {
         Ordering::Less => Ordering::Less,
@@ -129,9 +130,9 @@ fn compare_objects_of(a: &Start<'_>, b: &Start<'_>) -> Ordering
     compare_objects(a.operation.op.obj.lend(), b.operation.op.obj.lend())
 }
 
-// The order of the walk.
+// The order of the walk, where what stands at one name is given in order.
 fn compare_starts(a: &Start<'_>, b: &Start<'_>) -> Ordering
-    ensures { result ≡ by_spot a.now b.now }
+    ensures { result ≡ by_start a.now b.now }
 {
     match compare_objects_of(a, b) {
         Ordering::Less => Ordering::Less,
@@ -163,13 +164,13 @@ impl<'a> Start<'a> {
     }
 }
 
-/// Sorts them in the order of the walk.
+/// Sorts them in the order of the walk, if they are given in ascending id.
 pub fn sort_starts(all: &mut Vec<Start<'_>>) -> Result<(), AllocError>
-    ensures { OnOk result (all.new.items ≡ sorted_by by_spot all.old.items) }
+    ensures { OnOk result (all.new.items ≡ sorted_by by_start all.old.items) }
 {
     all.sort_by(
         |a: &Start<'_>, b: &Start<'_>| -> Ordering
-            ensures { result ≡ by_spot a.now b.now }
+            ensures { result ≡ by_start a.now b.now }
         { compare_starts(a, b) },
     )?;
     Ok(())

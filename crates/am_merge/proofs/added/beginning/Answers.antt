@@ -2,7 +2,8 @@ use Rattle.std.proofs.Common.{◌∙◌, map, reverse, ap}
 use Rattle.std.proofs.lemmas.List.{reverse-reverse}
 use Rattle.am_types.specs.Order.{sorted_by}
 use Rattle.am_places.specs.Numbered.{operation_of}
-use Rattle.am_merge.specs.Walk.{by_spot}
+use Rattle.am_merge.specs.Starts.{by_start}
+use Rattle.am_merge.proofs.Starting.{starts_alike}
 use Rattle.am_merge.proofs.Steps.{map-reverse}
 use Rattle.am_merge.proofs.added.beginning.Goals as goal
 
@@ -15,4 +16,5 @@ returns c =
     ∙ c.in_ok-all.ensures
     ∙ c.as_slice.ensures.value
     ∙ c.in_ok-sort_starts.ensures
-    ∙ ap (sorted_by by_spot) c.in_ok-starts.ensures
+    ∙ ap (sorted_by by_start) c.in_ok-starts.ensures
+    ∙ starts_alike (map operation_of c.args.operations.now) c.requires

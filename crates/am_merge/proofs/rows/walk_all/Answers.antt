@@ -4,7 +4,7 @@ use Rattle.am_merge.specs.Walk.{walked}
 use Rattle.am_merge.proofs.rows.walk_all.Goals as goal
 
 pub walk_rows-requires : goal.walk_rows-requires
-walk_rows-requires c = omega (arith, c.requires, c.in_ok-walk.ensures.few)
+walk_rows-requires c = omega (arith, c.requires.few, c.in_ok-walk.ensures.few)
 
 pub returns : goal.returns
 returns c t =
