@@ -1,5 +1,5 @@
 //! The operations of the ancestors of a change.
-ghost use Rattle.std.specs.Prelude.{◌≡◌, option_map};
+ghost use Rattle.std.specs.Prelude.{◌≡◌, option_map, IfSome};
 ghost use Rattle.am_types.specs.Views.{id_of};
 ghost use Rattle.am_graph.specs.Clocks.{reach_of};
 ghost use Rattle.am_graph.specs.Reaches.{number};
@@ -12,7 +12,7 @@ use crate::index::OpIndex;
 use crate::seen::Seen;
 use crate::table::Table;
 use am_graph::Reached;
-use am_types::{IdRef, same_actor};
+use am_types::{IdRef, same_actor, same_id};
 use std::marker::Model;
 
 /// What was found out about an actor.
@@ -26,9 +26,16 @@ pub(crate) struct Asked<'a> {
     pub end: u64,
 }
 
+/// What was found of an id.
+#[derive(Clone, Copy, Debug)]
+pub(crate) struct Found<'a> {
+    pub id: IdRef<'a>,
+    pub seen: Option<Seen<'a>>,
+}
+
 /// The operations of the ancestors of a change. What was found out about the two actors that were asked for last is kept,
-/// since the ids that a change names have few actors, often by turns. Contracts see the clock of the ancestors and the facts
-/// of all operations.
+/// since the ids that a change names have few actors, often by turns; and what the last object is, since operations that
+/// stand together are mostly of one object. Contracts see the clock of the ancestors and the facts of all operations.
 #[derive(Drop)]
 pub(crate) struct Ancestors<'a> {
     reached: Reached<'a>,
@@ -36,17 +43,21 @@ pub(crate) struct Ancestors<'a> {
     asked: Asked<'a>,
     /// The actor who was asked for before.
     before: Asked<'a>,
+    /// The object that was asked for last.
+    object: Option<Found<'a>>,
 }
 
 impl<'a> Model for Ancestors<'a> {
-    ghost use Rattle.am_fits.specs.Past.{Past, IsPast};
+    ghost use Rattle.std.specs.Prelude.{IfSome};
+    ghost use Rattle.am_fits.specs.Past.{Past, IsPast, IsFound};
     ghost use Rattle.am_fits.specs.Tables.{facts_in};
 
     ghost Value = { Past };
 
     ghost view = { λ a. record { clock = a.reached; facts = facts_in a.table.now } };
 
-    ghost invariant = { λ a. IsPast a.reached a.table.now a.asked × IsPast a.reached a.table.now a.before };
+    ghost invariant = { λ a. IsPast a.reached a.table.now a.asked × IsPast a.reached a.table.now a.before
+        × IfSome a.object (IsFound a.reached (facts_in a.table.now)) };
 }
 
 impl<'a> Ancestors<'a> {
@@ -62,7 +73,23 @@ impl<'a> Ancestors<'a> {
             table,
             asked,
             before: asked,
+            object: None,
         }
+    }
+
+    /// The ancestors' operation with the id of an object.
+    pub fn find_object(&mut self, id: IdRef<'a>) -> Option<Seen<'a>>
+        ensures same { self.new ≡ self.old }
+        ensures found { option_map fact_shown result ≡ ancestor_fact self.old.clock self.old.facts (id_of id.entry) }
+    {
+        if let Some(found) = self.object {
+            if same_id(found.id, id) {
+                return found.seen;
+            }
+        }
+        let seen = self.find(id);
+        self.object = Some(Found { id, seen });
+        seen
     }
 
     /// The ancestors' operation with the id.

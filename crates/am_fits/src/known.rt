@@ -63,7 +63,7 @@ fn object_takes<'a, C: ReadChange>(
             if makes(own(change, id, place), op.key()) {
                 return true;
             }
-            makes(ancestors.find(id), op.key())
+            makes(ancestors.find_object(id), op.key())
         }
     }
 }
