@@ -1,6 +1,7 @@
 -- Rows that are alike, in columns that are read together.
-use Rattle.std.proofs.Common.{◌≡◌, ◌≤◌, ℕ, zero, suc, List, [], ◌∷◌, ◌++◌, length, take, drop, replicate, Option, Some, None, refl, ap, subst, ◌∙◌, arith}
+use Rattle.std.proofs.Common.{◌≡◌, ◌≤◌, ℕ, zero, suc, List, [], ◌∷◌, ◌++◌, length, take, drop, replicate, Option, Some, None, refl, sym, ap, subst, ◌∙◌, arith}
 use Rattle.std.specs.Prelude.{IsSome}
+use Rattle.std.proofs.lemmas.List.{take-append-drop}
 use Rattle.am_fields.specs.Reading.{readings, AllRead}
 use Rattle.std.specs.List.{cons_option}
 
@@ -34,3 +35,7 @@ pub length_alike : {A : Type 0} (k : ℕ) (x : A) (more xs : List A) → xs ≡ 
 length_alike zero x more xs p = omega arith
 length_alike (suc k) x more [] p = absurd (cc)
 length_alike (suc k) x more (y ∷ xs) p = let behind : xs ≡ replicate k x ++ more = cc in let rest = length_alike k x more xs behind in omega (arith, rest)
+
+-- those alike are in front of what is behind them, where they are passed
+pub alike_before : {A : Type 0} (k : ℕ) (x : A) (old same new : List A) → take k old ≡ replicate k x → same ≡ old → new ≡ drop k same → old ≡ replicate k x ++ new
+alike_before k x old same new p q r = sym (take-append-drop k old) ∙ ap (λ l. l ++ drop k old) p ∙ ap (λ l. replicate k x ++ l) (sym (r ∙ ap (drop k) q))

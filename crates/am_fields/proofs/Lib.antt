@@ -9,6 +9,7 @@ pub mod Moves
 pub mod Copies
 pub mod IdLaws
 pub mod GroupLaws
+pub mod GivenAlike
 pub mod OneReading
 pub mod MetaLaws
 pub mod Written
@@ -25,3 +26,5 @@ pub mod Ahead
 pub mod Alike
 pub mod RisingIds
 pub mod Runs
+pub mod Judging
+pub mod CountersRead

@@ -1,12 +1,11 @@
 -- Ids of one actor whose counters go up by one, read out of runs of both columns.
-use Rattle.std.proofs.Common.{◌≡◌, ℕ, zero, suc, ◌+◌, ◌-◌, ◌≤◌, List, [], ◌∷◌, ◌++◌, ◌⊎◌, inl, inr, length, take, drop, replicate, Option, Some, None, refl, sym, ap, ◌∙◌, subst, arith, slice_get}
-use Rattle.std.specs.Prelude.{IsSome, ℤ, pos, negsuc, ◌+ℤ◌, option_map}
+use Rattle.std.proofs.Common.{◌≡◌, ℕ, zero, suc, ◌-◌, ◌≤◌, List, [], ◌∷◌, ◌++◌, ◌⊎◌, inl, inr, length, take, drop, replicate, Option, Some, None, refl, sym, ap, ◌∙◌, subst, arith, slice_get}
+use Rattle.std.specs.Prelude.{IsSome, ℤ, pos, negsuc, ◌+ℤ◌}
 use Rattle.std.specs.List.{cons_option}
 use Rattle.std.proofs.lemmas.Int.{ints}
 use Rattle.am_types.specs.declared.OpId.{OpId}
 use Rattle.am_delta.specs.Deltas.{stretch, sums_from}
 use Rattle.am_fields.specs.Fields.{id_at}
-use Rattle.am_fields.specs.Layout.{id_actor, id_counter}
 use Rattle.am_fields.specs.Reading.{readings, AllRead}
 use Rattle.am_fields.specs.Rising.{rising}
 use Rattle.am_fields.specs.RowLaws.{ids_read}

@@ -1,7 +1,7 @@
 //! What stands beside a column of places of actors, and how a row of both is read.
-ghost use Rattle.std.specs.Prelude.{◌≡◌, ◌+◌, ◌≤◌, ◌<◌, ◌^◌, ◌++◌, ◌∷◌, ℕ, List, Option, Some, length, map, take, drop, option_map, IfOk, IfSome, OnOk, OnErr};
+ghost use Rattle.std.specs.Prelude.{◌≡◌, ◌+◌, ◌≤◌, ◌<◌, ◌^◌, ◌++◌, ◌∷◌, ◌↔◌, ℕ, List, Option, Some, IsTrue, length, map, take, drop, option_map, IfOk, IfSome, OnOk, OnErr};
 ghost use Rattle.std.specs.List.{AllByRecursion};
-ghost use Rattle.am_fields.specs.Reading.{Rows, IsReading};
+ghost use Rattle.am_fields.specs.Reading.{Rows, IsReading, AllReadAt};
 ghost use Rattle.am_fields.specs.Spelling.{SpellsOnly};
 
 use crate::actors::Actors;
@@ -51,6 +51,14 @@ pub trait Beside<'a>: RowCells {
         requires { 0 < length (Self.cells self.old) }
         ensures same { actors.new ≡ actors.old }
         ensures item { (cell : Self.Cell) × (Self.cells self.old ≡ cell ∷ Self.cells self.new) × (option_map item_of result ≡ Self.rows.read actors.old place cell) };
+
+    /// Whether each of the next n rows, all of this place, is read as an item: judged by stretches of cells. Where each is,
+    /// it goes behind them.
+    fn judge_alike(&mut self, actors: &mut Actors<'a>, place: Option<u64>, n: u64) -> bool
+        requires { n ≤ length (Self.cells self.old) }
+        ensures same { actors.new ≡ actors.old }
+        ensures read { IsTrue result ↔ AllReadAt (Self.rows.read actors.old) place (take n (Self.cells self.old)) }
+        ensures behind { IsTrue result → Self.cells self.new ≡ drop n (Self.cells self.old) };
 }
 
 /// A column of counters beside the places.

@@ -119,6 +119,7 @@ impl<V, C: Spelled<V> + Drop> FilledColumn<V, C> {
 
 impl<V, C: Runs<V> + Drop> FilledColumn<V, C> {
     /// The next item, and how many like it come at once, at most so many. A run costs two steps at most.
+    #[inline(always)]
     pub fn next_alike_within(&mut self, most: u64) -> (C::Item, u64)
         requires some { 0 < most }
         requires left { 0 < length self.old }

@@ -1,7 +1,7 @@
 //! Items of a field in columns: the places of their actors, and what stands beside.
 ghost use Rattle.std.specs.Prelude.{◌≡◌, ◌+◌, ◌≤◌, ◌<◌, ◌^◌, ◌++◌, ◌∷◌, ◌↔◌, List, Some, length, map, take, drop, option_map, IfOk, IfSome, OnOk, OnErr, IsTrue};
 ghost use Rattle.am_fields.specs.Columns.{place_of};
-ghost use Rattle.am_fields.specs.Reading.{readings, AllRead};
+ghost use Rattle.am_fields.specs.Reading.{readings, AllRead, AllReadAt};
 ghost use Rattle.am_fields.specs.Spelling.{SpellsPlaced};
 
 use crate::actors::Actors;
@@ -34,7 +34,25 @@ impl<'a, B: RowCells> Model for PlacedColumns<'a, B> {
     ghost invariant = { λ c. AllRead (B.rows.read c.actors) c.actor (B.cells c.beside) };
 }
 
-// Whether each row is read as an item.
+// Whether each of the next n rows, all of this place, is read as an item. Where each is, it goes behind them.
+fn are_read_alike<'a, B: Beside<'a>>(
+    rest: &mut B,
+    actors: &mut Actors<'a>,
+    place: Option<u64>,
+    n: u64,
+) -> bool
+    requires { n ≤ length (B.cells rest.old) }
+    ensures same { actors.new ≡ actors.old }
+    ensures read { IsTrue result ↔ AllReadAt (B.rows.read actors.old) place (take n (B.cells rest.old)) }
+    ensures behind { IsTrue result → B.cells rest.new ≡ drop n (B.cells rest.old) }
+{
+    if n == 1 {
+        return rest.item(actors, place).is_some();
+    }
+    rest.judge_alike(actors, place, n)
+}
+
+// Whether each row is read as an item. Rows with the same place are judged together.
 fn are_read<'a, B: Beside<'a>>(actors: &Actors<'a>, actor: &NumberColumn<'a>, beside: &B) -> bool
     requires { length actor.now ≡ length (B.cells beside.now) }
     ensures { IsTrue result ↔ AllRead (B.rows.read actors.now) actor.now (B.cells beside.now) }
@@ -43,7 +61,8 @@ fn are_read<'a, B: Beside<'a>>(actors: &Actors<'a>, actor: &NumberColumn<'a>, be
     let mut places = actor.again();
     let mut rest = beside.again();
     while places.left() > 0 {
-        if rest.item(&mut known, places.next()).is_none() {
+        let (place, count) = places.next_alike_within(u64::MAX);
+        if !are_read_alike(&mut rest, &mut known, place, count) {
             return false;
         }
     }

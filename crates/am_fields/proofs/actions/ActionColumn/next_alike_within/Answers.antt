@@ -1,5 +1,4 @@
-use Rattle.std.proofs.Common.{◌≡◌, ◌++◌, ◌∙◌, Some, length, replicate, ap, sym, arith}
-use Rattle.am_fields.specs.Groups.{givens}
+use Rattle.std.proofs.Common.{◌++◌, ◌∙◌, length, replicate, ap, sym, arith}
 use Rattle.am_fields.proofs.GroupLaws.{length-givens, actions_given}
 use Rattle.am_fields.proofs.Runs.{givens_alike, actions_past, first_action}
 use Rattle.am_fields.proofs.actions.ActionColumn.next_alike_within.Goals as goal
