@@ -1,7 +1,6 @@
 //! What added operations name, in tables that are searched by it.
-ghost use Rattle.std.specs.Prelude.{◌≡◌, ◌≤◌, ◌<◌, ◌∷◌, ◌++◌, [], List, false, filter, length, map, reverse, slice_index_or, slice_range, true, IfOk, OnOk};
+ghost use Rattle.std.specs.Prelude.{◌≡◌, ◌≤◌, ◌<◌, ◌∷◌, ◌++◌, [], List, false, filter, length, map, reverse, slice_index_or, slice_range, true, IfOk, IfSome, OnOk};
 ghost use Rattle.std.specs.List.{AllWithin};
-ghost use Rattle.std.specs.List.Sorted.{IsPartitionPoint, IsPartitionedBy};
 ghost use Rattle.std.specs.Ordering.{is_le, is_lt, ordering_then};
 ghost use Rattle.am_types.specs.Order.{bytes_cmp, object_cmp, sorted_by};
 ghost use Rattle.am_types.specs.Views.{id_of, object_of};
@@ -202,42 +201,36 @@ fn names_up_to(n: &Naming<'_>, obj: ObjRef<'_>, id: IdRef<'_>) -> bool
     compare_named(n, obj, id).is_le()
 }
 
-// Whether what names less ends here.
-fn is_first(table: &[Naming<'_>], at: usize, obj: ObjRef<'_>, id: IdRef<'_>) -> bool
-    ensures { result ≡ true → IsSeam (λ n. is_lt (key_cmp (named_key (named_of n)) (object_of obj.entry, id_of id.entry))) table.now at }
+// Where what names less ends, if that is a few steps behind a place, and whether the id is named there.
+fn seam_near(
+    table: &[Naming<'_>],
+    near: usize,
+    obj: ObjRef<'_>,
+    id: IdRef<'_>,
+) -> Option<(usize, bool)>
+    ensures seam { IfSome result (λ r. IsSeam (λ n. is_lt (key_cmp (named_key (named_of n)) (object_of obj.entry, id_of id.entry))) table.now r.0) }
+    ensures none { IfSome result (λ r. r.1 ≡ false → (d : ANaming) → r.0 < length table.now → is_le (key_cmp (named_key (named_of (slice_index_or table.now r.0 d))) (object_of obj.entry, id_of id.entry)) ≡ false) }
 {
-    if at > table.len() {
-        return false;
+    if near > table.len() {
+        return None;
     }
-    if at > 0 && !names_less(&table[at - 1], obj, id) {
-        return false;
+    if near > 0 && !names_less(&table[near - 1], obj, id) {
+        return None;
     }
-    at == table.len() || !names_less(&table[at], obj, id)
-}
-
-// Behind a few that name less. No contract needs it.
-fn behind_less(table: &[Naming<'_>], from: usize, obj: ObjRef<'_>, id: IdRef<'_>) -> usize {
-    let mut at = from;
-    for _ in 0..REACH {
-        if at >= table.len() || !names_less(&table[at], obj, id) {
-            return at;
+    let mut at = near;
+    let mut steps = 0;
+    while steps < REACH {
+        if at == table.len() {
+            return Some((at, false));
         }
-        at += 1;
+        match compare_named(&table[at], obj, id) {
+            Ordering::Less => at += 1,
+            Ordering::Equal => return Some((at, true)),
+            Ordering::Greater => return Some((at, false)),
+        }
+        steps += 1;
     }
-    at
-}
-
-// From where a table names this id, which may be a little behind a place, and else is sought.
-fn first_near(table: &[Naming<'_>], near: usize, obj: ObjRef<'_>, id: IdRef<'_>) -> usize
-    ensures bound { result ≤ length table.now }
-    ensures first { IsPartitionedBy (λ n. is_lt (key_cmp (named_key (named_of n)) (object_of obj.entry, id_of id.entry))) table.now
-        → IsPartitionPoint (λ n. is_lt (key_cmp (named_key (named_of n)) (object_of obj.entry, id_of id.entry)) ≡ true) (λ n. is_lt (key_cmp (named_key (named_of n)) (object_of obj.entry, id_of id.entry)) ≡ false) table.now result }
-{
-    let at = behind_less(table, near, obj, id);
-    if is_first(table, at, obj, id) {
-        return at;
-    }
-    table.partition_point(|n| names_less(n, obj, id))
+    None
 }
 
 // Up to where a table names this id, from its first place on: each place that does is looked at.
@@ -255,6 +248,17 @@ fn end_from(table: &[Naming<'_>], first: usize, obj: ObjRef<'_>, id: IdRef<'_>) 
     last
 }
 
+// From where to where a sorted table names this id in this object, sought in all of it.
+fn range_in(table: &[Naming<'_>], obj: ObjRef<'_>, id: IdRef<'_>) -> (usize, usize)
+    ensures order { result.0 ≤ result.1 }
+    ensures bound { result.1 ≤ length table.now }
+    ensures named { (xs : List Named) → map named_of table.now ≡ sorted_by named_cmp xs → map named_of (slice_range table.now result.0 result.1) ≡ filter (is_named (object_of obj.entry) (id_of id.entry)) xs }
+{
+    let first = table.partition_point(|n| names_less(n, obj, id));
+    let last = end_from(table, first, obj, id);
+    (first, last)
+}
+
 /// From where to where a sorted table names this id in this object. A place behind which it may be is looked at before it is
 /// sought.
 pub fn range_of(table: &[Naming<'_>], near: usize, obj: ObjRef<'_>, id: IdRef<'_>) -> (usize, usize)
@@ -262,9 +266,14 @@ pub fn range_of(table: &[Naming<'_>], near: usize, obj: ObjRef<'_>, id: IdRef<'_
     ensures bound { result.1 ≤ length table.now }
     ensures named { (xs : List Named) → map named_of table.now ≡ sorted_by named_cmp xs → map named_of (slice_range table.now result.0 result.1) ≡ filter (is_named (object_of obj.entry) (id_of id.entry)) xs }
 {
-    let first = first_near(table, near, obj, id);
-    let last = end_from(table, first, obj, id);
-    (first, last)
+    let Some((first, is_there)) = seam_near(table, near, obj, id) else {
+        return range_in(table, obj, id);
+    };
+    if is_there {
+        let last = end_from(table, first, obj, id);
+        return (first, last);
+    }
+    (first, first)
 }
 
 /// What a sorted table has of those that name this id in this object, sought near a place first.
