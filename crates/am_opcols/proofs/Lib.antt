@@ -10,6 +10,7 @@ pub mod WrittenOps
 pub mod Chains
 pub mod NamedAlone
 pub mod NotedLaws
+pub mod ShortActors
 pub mod EachColumnLaws
 pub mod ListedLaws
 pub mod CanonicalRead

@@ -146,7 +146,7 @@ sorted_members old sorted p a =
 
 -- ---- what is left
 
-at_each : (P : List ℕ → Type 0) (xs : List (List ℕ)) → ((a : List ℕ) → IsListed xs a → P a) → AllByRecursion P xs
+pub at_each : (P : List ℕ → Type 0) (xs : List (List ℕ)) → ((a : List ℕ) → IsListed xs a → P a) → AllByRecursion P xs
 at_each P [] f = tt
 at_each P (x ∷ xs) f = (f x (inl refl), at_each P xs (λ a h. f a (inr h)))
 

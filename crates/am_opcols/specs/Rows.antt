@@ -1,6 +1,7 @@
 -- Operations field by field, as a cursor reads them.
 --     ops_from objects keys ..     the operations with these fields
 --     op_of r                      what a lent operation stands for
+--     head_with r preds            the same of one whose predecessors stand apart
 use Rattle.std.specs.Prelude.{ℕ, List, map, Option, option_map, Bool}
 use Rattle.std.specs.List.{zip}
 use Rattle.am_types.specs.declared.OpId.{OpId}
@@ -10,6 +11,7 @@ use Rattle.am_types.specs.declared.RawValue.{RawValue}
 use Rattle.am_types.specs.declared.Op.{Op}
 use Rattle.am_types.specs.Views.{object_of, key_of, value_of}
 use Rattle.am_opcols.specs.declared.op.OpRef.{OpRef}
+use Rattle.am_opcols.specs.declared.op.OpHead.{OpHead}
 
 abbrev pub Fields : Type 0
 Fields = ObjId × (Key × (Bool × (ℕ × (RawValue × (List OpId × (Bool × Option (List ℕ)))))))
@@ -29,6 +31,18 @@ op_of r = record {
   action = r.action;
   value = value_of r.value;
   preds = r.preds;
+  expand = r.expand;
+  mark = option_map (λ s. s.now) r.mark;
+}
+
+abbrev pub head_with : OpHead → List OpId → Op
+head_with r preds = record {
+  obj = object_of r.obj;
+  key = key_of r.key;
+  insert = r.insert;
+  action = r.action;
+  value = value_of r.value;
+  preds = preds;
   expand = r.expand;
   mark = option_map (λ s. s.now) r.mark;
 }

@@ -1,22 +1,22 @@
 //! The numbers that operations have in columns, each kind a type.
 ghost use Rattle.std.specs.Prelude.{◌≡◌, List, ℕ, Option};
 ghost use Rattle.am_types.specs.declared.Op.{Op};
-ghost use Rattle.am_types.specs.declared.RawValue.{RawValue};
 ghost use Rattle.am_types.specs.Fine.{FineOp};
 ghost use Rattle.am_types.specs.Values.{Good};
+ghost use Rattle.am_types.specs.Views.{value_of};
 ghost use Rattle.am_values.specs.Columns.{metadata};
 
 use am_fields::ListedActors;
-use am_types::{Key, ObjId, Op, RawValue};
+use am_types::{KeyRef, ObjRef, ReadOp, ValueRef};
 
 /// A kind of number that a column has of operations.
 pub trait Cell {
     /// The number of an operation, if it has one. Places are those among these actors.
     ghost cell: { List (List ℕ) → Op → Option ℕ };
 
-    fn of(actors: &ListedActors<'_>, op: &Op) -> Option<u64>
-        requires { FineOp op.now }
-        ensures { result ≡ cell actors.now op.now };
+    fn of<O: ReadOp>(actors: &ListedActors<'_>, op: &O) -> Option<u64>
+        requires { FineOp (O.op op.now) }
+        ensures { result ≡ cell actors.now (O.op op.now) };
 }
 
 /// The place of the actor of the object.
@@ -29,10 +29,10 @@ impl Cell for ObjectPlace {
 
     ghost cell = { λ actors o. option_map (place_of actors) (object_actor o.obj) };
 
-    fn of(actors: &ListedActors<'_>, op: &Op) -> Option<u64> {
-        match &op.obj {
-            ObjId::Root => None,
-            ObjId::Made(id) => Some(actors.place(id.actor.as_slice())),
+    fn of<O: ReadOp>(actors: &ListedActors<'_>, op: &O) -> Option<u64> {
+        match op.obj() {
+            ObjRef::Root => None,
+            ObjRef::Made(id) => Some(actors.place(id.actor)),
         }
     }
 }
@@ -45,10 +45,10 @@ impl Cell for ObjectCounter {
 
     ghost cell = { λ actors o. object_counter o.obj };
 
-    fn of(_actors: &ListedActors<'_>, op: &Op) -> Option<u64> {
-        match &op.obj {
-            ObjId::Root => None,
-            ObjId::Made(id) => Some(id.counter),
+    fn of<O: ReadOp>(_actors: &ListedActors<'_>, op: &O) -> Option<u64> {
+        match op.obj() {
+            ObjRef::Root => None,
+            ObjRef::Made(id) => Some(id.counter),
         }
     }
 }
@@ -63,11 +63,11 @@ impl Cell for KeyPlace {
 
     ghost cell = { λ actors o. option_map (place_of actors) (key_actor o.key) };
 
-    fn of(actors: &ListedActors<'_>, op: &Op) -> Option<u64> {
-        match &op.key {
-            Key::Name(_) => None,
-            Key::Head => None,
-            Key::Elem(id) => Some(actors.place(id.actor.as_slice())),
+    fn of<O: ReadOp>(actors: &ListedActors<'_>, op: &O) -> Option<u64> {
+        match op.key() {
+            KeyRef::Name(_) => None,
+            KeyRef::Head => None,
+            KeyRef::Elem(id) => Some(actors.place(id.actor)),
         }
     }
 }
@@ -80,15 +80,15 @@ impl Cell for Action {
 
     ghost cell = { λ actors o. Some o.action };
 
-    fn of(_actors: &ListedActors<'_>, op: &Op) -> Option<u64> {
-        Some(u64::from(op.action))
+    fn of<O: ReadOp>(_actors: &ListedActors<'_>, op: &O) -> Option<u64> {
+        Some(u64::from(op.action()))
     }
 }
 
 // The number that tells the kind and the length of a value.
-fn metadata_of(value: &RawValue) -> u64
-    requires { Good value.now }
-    ensures { result ≡ metadata value.now }
+fn metadata_of(value: ValueRef<'_>) -> u64
+    requires { Good (value_of value) }
+    ensures { result ≡ metadata (value_of value.entry) }
 {
     u64::from(value.kind) + 16 * value.raw.len() as u64
 }
@@ -102,8 +102,8 @@ impl Cell for Metadata {
 
     ghost cell = { λ actors o. Some (metadata o.value) };
 
-    fn of(_actors: &ListedActors<'_>, op: &Op) -> Option<u64> {
-        Some(metadata_of(&op.value))
+    fn of<O: ReadOp>(_actors: &ListedActors<'_>, op: &O) -> Option<u64> {
+        Some(metadata_of(op.value()))
     }
 }
 
@@ -115,7 +115,7 @@ impl Cell for PredCount {
 
     ghost cell = { λ actors o. Some (length o.preds) };
 
-    fn of(_actors: &ListedActors<'_>, op: &Op) -> Option<u64> {
-        Some(op.preds.len() as u64)
+    fn of<O: ReadOp>(_actors: &ListedActors<'_>, op: &O) -> Option<u64> {
+        Some(op.pred_count() as u64)
     }
 }

@@ -2,22 +2,22 @@
 ghost use Rattle.std.specs.Prelude.{◌≡◌, ◌∷◌, [], List, length, IfOk, IfSome, IfNone, OnErr};
 ghost use Rattle.am_types.specs.declared.Op.{Op};
 ghost use Rattle.am_opcols.specs.Columns.{SpellsOps};
-ghost use Rattle.am_opcols.specs.Rows.{op_of};
+ghost use Rattle.am_opcols.specs.Rows.{op_of, head_with};
 
 use crate::fault::BadOps;
 use crate::found::OpColumns;
-use crate::op::OpRef;
+use crate::op::{OpHead, OpRef};
 use am_colmeta::{ActorList, Columns};
 use am_fields::{
-    ActionColumn, Actors, BadFields, FlagColumn, GroupColumns, KeyColumns, ObjectColumns,
-    TextColumn, ValueColumns, is_given, specifications,
+    ActionColumn, Actors, BadFields, CountedObjects, FlagColumn, GroupColumns,
+    IdCursor as PredCursor, KeyColumns, TextColumn, ValueColumns, specifications,
 };
 use std::marker::Model;
 
 /// The operations of a change, one after another.
 #[derive(Drop)]
 pub struct OpCursor<'a> {
-    objects: ObjectColumns<'a>,
+    objects: CountedObjects<'a>,
     keys: KeyColumns<'a>,
     inserts: FlagColumn<'a>,
     actions: ActionColumn<'a>,
@@ -68,17 +68,11 @@ fn opened<'a>(columns: &OpColumns<'a>, actors: &Actors<'a>) -> Result<OpCursor<'
     let pred_counter = columns.find(specifications::PRED_COUNTER);
     let actions = ActionColumn::over(action)?;
     let count = actions.left();
-    let objects = ObjectColumns::over(object_actor, object_counter, actors, count)?;
+    let objects = CountedObjects::over(object_actor, object_counter, actors, count)?;
     let keys = KeyColumns::over(key_actor, key_counter, key_name, actors, count)?;
     let inserts = FlagColumn::over(insert, count)?;
-    let values = ValueColumns::over(numbers, raw, count)?;
-    if !is_given(numbers, count) {
-        return Err(BadFields);
-    }
-    let preds = GroupColumns::over(group, pred_actor, pred_counter, actors, count)?;
-    if !is_given(group, count) {
-        return Err(BadFields);
-    }
+    let values = ValueColumns::given(numbers, raw, count)?;
+    let preds = GroupColumns::given(group, pred_actor, pred_counter, actors, count)?;
     let expands = FlagColumn::over(expand, count)?;
     let marks = TextColumn::over(mark, count)?;
     Ok(OpCursor {
@@ -124,6 +118,28 @@ impl<'a> OpCursor<'a> {
             expand: self.expands.next(),
             mark: self.marks.next(),
         })
+    }
+
+    /// The next operation but for its predecessors, or None behind the last. The predecessors are put into a cursor that is
+    /// there, in place of what it had.
+    pub fn next_into(&mut self, preds: &mut PredCursor<'a>) -> Option<OpHead<'a>>
+        ensures end { IfNone result ((self.old ≡ []) × (self.new ≡ [])) }
+        ensures next { IfSome result (λ op. self.old ≡ head_with op preds.new ∷ self.new) }
+    {
+        if self.actions.left() == 0 {
+            return None;
+        }
+        let head = OpHead {
+            obj: self.objects.next(),
+            key: self.keys.next(),
+            insert: self.inserts.next(),
+            action: self.actions.next(),
+            value: self.values.next(),
+            expand: self.expands.next(),
+            mark: self.marks.next(),
+        };
+        self.preds.next_into(preds);
+        Some(head)
     }
 
     /// How many operations are left.

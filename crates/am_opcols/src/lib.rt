@@ -23,5 +23,5 @@ pub use cursor::OpCursor;
 pub use fault::BadOps;
 pub use found::OpColumns;
 pub use laws::{canonical_columns_spell, one_list, others_are_named};
-pub use op::OpRef;
+pub use op::{OpHead, OpRef};
 pub use write::{OpsText, write_ops};

@@ -15,3 +15,15 @@ pub struct OpRef<'a> {
     pub expand: bool,
     pub mark: Option<&'a str>,
 }
+
+/// An operation but for its predecessors, lent from its columns.
+#[derive(Clone, Copy)]
+pub struct OpHead<'a> {
+    pub obj: ObjRef<'a>,
+    pub key: KeyRef<'a>,
+    pub insert: bool,
+    pub action: u8,
+    pub value: ValueRef<'a>,
+    pub expand: bool,
+    pub mark: Option<&'a str>,
+}

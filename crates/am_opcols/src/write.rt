@@ -1,5 +1,5 @@
 //! Writing the operations of a change to their canonical columns.
-ghost use Rattle.std.specs.Prelude.{◌≡◌, ◌+◌, ◌≤◌, ◌^◌, ◌++◌, ◌∷◌, [], ℕ, All, length, IfOk, OnOk};
+ghost use Rattle.std.specs.Prelude.{◌≡◌, ◌+◌, ◌≤◌, ◌^◌, ◌++◌, ◌∷◌, [], ℕ, All, length, map, IfOk, OnOk};
 ghost use Rattle.am_types.specs.Fine.{FineOp, pred_count};
 ghost use Rattle.am_colmeta.specs.Metadata.{metadata, listing, body, not_empty};
 ghost use Rattle.am_fields.specs.Columns.{spellings};
@@ -16,7 +16,7 @@ use crate::others::others_of;
 use am_colmeta::push_metadata;
 use am_delta::DeltaList;
 use am_fields::{ListedActors, specifications};
-use am_types::{ActorId, Bytes, List, Op, Twin};
+use am_types::{ActorId, Bytes, List, ReadOp, Twin};
 use std::alloc::{AllocError, Global};
 
 /// The columns of a change's operations, as its chunk has them.
@@ -53,30 +53,30 @@ fn push_listed(
 
 // Writes the columns of the operations, one behind another, and lists them. The room is for what stands in one of
 // them.
-fn push_columns(
+fn push_columns<O: ReadOp>(
     alloc: Global,
     out: &mut Vec<u8>,
     listed: &mut Vec<(u64, u64)>,
     numbers: &mut Vec<Option<u64>>,
     counters: &mut DeltaList,
     actors: &ListedActors<'_>,
-    ops: &[Op],
+    ops: &[O],
 ) -> Result<(), AllocError>
-    requires fine { All FineOp ops.now }
+    requires fine { All FineOp (map O.op ops.now) }
     requires few { length ops.now ≤ 2 ^ 22 }
-    requires few_preds { pred_count ops.now ≤ 2 ^ 22 }
+    requires few_preds { pred_count (map O.op ops.now) ≤ 2 ^ 22 }
     requires empty { out.old.items ≡ [] }
     requires none { listed.old.items ≡ [] }
-    ensures { OnOk result ((out.new.items ≡ body (spellings actors.now (op_columns ops.now))) × (listed.new.items ≡ listing (spellings actors.now (op_columns ops.now)))) }
+    ensures { OnOk result ((out.new.items ≡ body (spellings actors.now (op_columns (map O.op ops.now)))) × (listed.new.items ≡ listing (spellings actors.now (op_columns (map O.op ops.now))))) }
 {
     let at = out.len();
-    push_numbers::<ObjectPlace>(out, numbers, actors, ops)?;
+    push_numbers::<ObjectPlace, O>(out, numbers, actors, ops)?;
     push_listed(listed, specifications::OBJECT_ACTOR, at, out)?;
     let at = out.len();
-    push_numbers::<ObjectCounter>(out, numbers, actors, ops)?;
+    push_numbers::<ObjectCounter, O>(out, numbers, actors, ops)?;
     push_listed(listed, specifications::OBJECT_COUNTER, at, out)?;
     let at = out.len();
-    push_numbers::<KeyPlace>(out, numbers, actors, ops)?;
+    push_numbers::<KeyPlace, O>(out, numbers, actors, ops)?;
     push_listed(listed, specifications::KEY_ACTOR, at, out)?;
     let at = out.len();
     push_key_counters(out, counters, ops)?;
@@ -88,16 +88,16 @@ fn push_columns(
     push_column(out, inserts_in(alloc, ops)?)?;
     push_listed(listed, specifications::INSERT, at, out)?;
     let at = out.len();
-    push_numbers::<Action>(out, numbers, actors, ops)?;
+    push_numbers::<Action, O>(out, numbers, actors, ops)?;
     push_listed(listed, specifications::ACTION, at, out)?;
     let at = out.len();
-    push_numbers::<Metadata>(out, numbers, actors, ops)?;
+    push_numbers::<Metadata, O>(out, numbers, actors, ops)?;
     push_listed(listed, specifications::VALUE_METADATA, at, out)?;
     let at = out.len();
     push_raw(out, ops)?;
     push_listed(listed, specifications::VALUE_RAW, at, out)?;
     let at = out.len();
-    push_numbers::<PredCount>(out, numbers, actors, ops)?;
+    push_numbers::<PredCount, O>(out, numbers, actors, ops)?;
     push_listed(listed, specifications::PRED_COUNT, at, out)?;
     let at = out.len();
     push_pred_actors(out, numbers, actors, ops)?;
@@ -115,16 +115,16 @@ fn push_columns(
 }
 
 // The metadata and the body of the operations. Body and metadata begin with room for most changes.
-fn text_of(
+fn text_of<O: ReadOp>(
     alloc: Global,
     actors: &ListedActors<'_>,
-    ops: &[Op],
+    ops: &[O],
 ) -> Result<(Bytes, Bytes), AllocError>
-    requires fine { All FineOp ops.now }
+    requires fine { All FineOp (map O.op ops.now) }
     requires few { length ops.now ≤ 2 ^ 22 }
-    requires few_preds { pred_count ops.now ≤ 2 ^ 22 }
-    ensures metadata { IfOk result (λ text. text.0 ≡ metadata (listing (not_empty (spellings actors.now (op_columns ops.now))))) }
-    ensures body { IfOk result (λ text. text.1 ≡ body (not_empty (spellings actors.now (op_columns ops.now)))) }
+    requires few_preds { pred_count (map O.op ops.now) ≤ 2 ^ 22 }
+    ensures metadata { IfOk result (λ text. text.0 ≡ metadata (listing (not_empty (spellings actors.now (op_columns (map O.op ops.now)))))) }
+    ensures body { IfOk result (λ text. text.1 ≡ body (not_empty (spellings actors.now (op_columns (map O.op ops.now))))) }
 {
     let mut numbers = Vec::with_capacity(alloc, ops.len())?;
     let mut counters = DeltaList::new(alloc);
@@ -145,13 +145,17 @@ fn text_of(
 }
 
 /// The columns of the operations of a fine change by this author, in their canonical spelling.
-pub fn write_ops(alloc: Global, ops: &[Op], author: &ActorId) -> Result<OpsText, AllocError>
-    requires fine { All FineOp ops.now }
+pub fn write_ops<O: ReadOp>(
+    alloc: Global,
+    ops: &[O],
+    author: &ActorId,
+) -> Result<OpsText, AllocError>
+    requires fine { All FineOp (map O.op ops.now) }
     requires few { length ops.now ≤ 2 ^ 22 }
-    requires few_preds { pred_count ops.now ≤ 2 ^ 22 }
-    ensures others { IfOk result (λ text. text.others ≡ others author.now ops.now) }
-    ensures metadata { IfOk result (λ text. text.metadata ≡ metadata (listing (written_columns author.now ops.now))) }
-    ensures body { IfOk result (λ text. text.body ≡ body (written_columns author.now ops.now)) }
+    requires few_preds { pred_count (map O.op ops.now) ≤ 2 ^ 22 }
+    ensures others { IfOk result (λ text. text.others ≡ others author.now (map O.op ops.now)) }
+    ensures metadata { IfOk result (λ text. text.metadata ≡ metadata (listing (written_columns author.now (map O.op ops.now)))) }
+    ensures body { IfOk result (λ text. text.body ≡ body (written_columns author.now (map O.op ops.now))) }
 {
     let mut actors = others_of(alloc, ops, author.as_slice())?;
     let first = author.copy(alloc)?;

@@ -3,7 +3,7 @@ use Rattle.am_opcols.specs.Counting.{Counts}
 use Rattle.am_opcols.proofs.columns.marks_in.Given as goal
 
 abbrev pub invariant-loop-op : goal.invariant-loop-op
-invariant-loop-op l = record {
+invariant-loop-op g l = record {
   few : l.nulls ≤ l.op-index;
-  counts : Counts (map (λ o. o.mark) (take l.op-index l.ops)) l.writer None l.nulls;
+  counts : Counts (map (λ o. o.mark) (take l.op-index (map g.O.ReadOp.op l.ops))) l.writer None l.nulls;
 }

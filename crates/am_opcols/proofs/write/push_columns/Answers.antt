@@ -8,9 +8,9 @@ use Rattle.am_opcols.proofs.WriteLaws.{fused2, fused3}
 use Rattle.am_opcols.proofs.write.push_columns.Goals as goal
 
 pub returns : goal.returns
-returns c =
+returns g c =
     let actors = c.args.actors.now in
-    let ops = c.args.ops.now in
+    let ops = map g.O.ReadOp.op c.args.ops.now in
     let preds = flat (map (λ o. o.preds) ops) in
     let p = none_placed actors _ _ c.requires.empty c.requires.none in
     let p = place 1 (Actors (map object_actor (map (λ o. o.obj) ops))) p (omega (arith, c.len-at.ensures, c.args.out.now.ok.0)) c.in_ok-push_numbers.ensures (ap numbers_bytes (fused3 (option_map (place_of actors)) object_actor (λ o. o.obj) ops)) (λ n e. c.in_ok-push_listed.ensures n (e ∙ ap length (sym c.deref.ensures.value))) in

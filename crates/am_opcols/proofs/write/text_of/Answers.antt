@@ -1,4 +1,4 @@
-use Rattle.std.proofs.Common.{◌++◌, sym, ap, ◌∙◌}
+use Rattle.std.proofs.Common.{◌++◌, map, sym, ap, ◌∙◌}
 use Rattle.std.specs.Prelude.{filter}
 use Rattle.am_colmeta.specs.Metadata.{metadata}
 use Rattle.am_colmeta.specs.Writing.{has_length}
@@ -8,8 +8,8 @@ use Rattle.am_opcols.specs.Columns.{op_columns}
 use Rattle.am_opcols.proofs.write.text_of.Goals as goal
 
 pub returns-clause-metadata : goal.returns-clause-metadata
-returns-clause-metadata c =
-    let columns = spellings c.args.actors.now (op_columns c.args.ops.now) in
+returns-clause-metadata g c =
+    let columns = spellings c.args.actors.now (op_columns (map g.O.ReadOp.op c.args.ops.now)) in
     let listed = c.as_slice.ensures.value ∙ c.in_ok-push_columns.ensures.1 in
     c.from.ensures
     ∙ c.in_ok-push_metadata.ensures.written
@@ -17,6 +17,6 @@ returns-clause-metadata c =
     ∙ ap metadata (listing-kept columns)
 
 pub returns-clause-body : goal.returns-clause-body
-returns-clause-body c =
-    let columns = spellings c.args.actors.now (op_columns c.args.ops.now) in
+returns-clause-body g c =
+    let columns = spellings c.args.actors.now (op_columns (map g.O.ReadOp.op c.args.ops.now)) in
     c.from-2.ensures ∙ c.in_ok-push_columns.ensures.0 ∙ sym (body-not_empty columns)
