@@ -4,3 +4,4 @@ pub mod ContentsLaws
 pub mod Parsing
 pub mod InPlace
 pub mod OwnHashes
+pub mod OneByOne

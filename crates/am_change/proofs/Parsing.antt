@@ -13,6 +13,8 @@ use Rattle.am_colmeta.specs.Judgement.{AreCompressed}
 use Rattle.am_colmeta.specs.Judgement as columns
 use Rattle.am_colmeta.proofs.Cutting.{total-listing}
 use Rattle.am_colmeta.proofs.Judging as judging
+use Rattle.am_types.specs.Values.{Good}
+use Rattle.am_values.specs.Columns.{AllGood}
 use Rattle.am_fields.specs.Limits.{IsWithin, IsObjectWithin, IsKeyWithin}
 use Rattle.am_fields.specs.Layout.{flat}
 use Rattle.am_opcols.specs.Columns.{op_specifications, AreOpsWithin, SpellsOps}
@@ -100,6 +102,10 @@ each_within (o ∷ ops) a b d =
 
 pub ops_within : (ops : List Op) → AreOpsWithin ops → AllByRecursion IsOpWithin ops
 ops_within ops w = each_within ops w.objects w.keys w.preds
+
+pub good_values : (ops : List Op) → AllGood (map (λ o. o.value) ops) → AllByRecursion (λ (op : Op). Good op.value) ops
+good_values [] all = tt
+good_values (o ∷ ops) all = (all.0, good_values ops all.1)
 
 -- the change of these parts
 pub same_change : (f : Front) (ops : List Op) (extra : List ℕ) (c : Change) → f ≡ front c → ops ≡ c.ops → extra ≡ c.extra → change_with f ops extra ≡ c

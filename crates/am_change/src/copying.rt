@@ -3,11 +3,11 @@ ghost use Rattle.std.specs.Prelude.{◌≡◌, ◌≤◌, ◌*◌, length, optio
 ghost use Rattle.std.specs.List.{AllByRecursion};
 ghost use Rattle.am_types.specs.Views.{id_of, object_of, key_of, value_of};
 ghost use Rattle.am_fields.specs.Limits.{IsWithin, IsObjectWithin, IsKeyWithin};
-ghost use Rattle.am_opcols.specs.Rows.{op_of};
+ghost use Rattle.am_opcols.specs.Rows.{head_with};
 ghost use Rattle.am_change.specs.Building.{hash_with, hashes_in, front_of, change_with, IsOpWithin};
 
 use crate::front::FrontRef;
-use am_opcols::{OpCursor, OpRef, PredCursor};
+use am_opcols::{OpCursor, OpHead, PredCursor};
 use am_types::{
     ActorFault, ActorId, Bytes, Change, Hash, IdRef, Key, KeyRef, List, ObjId, ObjRef, Op, OpId,
     RawValue, SharedActors, Text, ValueRef,
@@ -128,22 +128,26 @@ fn mark_in(alloc: Global, mark: Option<&str>) -> Result<Option<Text>, AllocError
 fn preds_in(
     alloc: Global,
     actors: &mut SharedActors,
-    preds: PredCursor<'_>,
+    preds: &mut PredCursor<'_>,
 ) -> Result<List<OpId>, AllocError>
-    requires { AllByRecursion IsWithin preds }
-    ensures { IfOk result (λ copy. copy ≡ preds.entry) }
+    requires { AllByRecursion IsWithin preds.old }
+    ensures { IfOk result (λ copy. copy ≡ preds.old) }
 {
     let mut copy = List::new(alloc);
-    let mut rest = preds;
-    while let Some(id) = rest.next() {
+    while let Some(id) = preds.next() {
         copy.push(id_in(alloc, actors, id)?)?;
     }
     Ok(copy)
 }
 
-fn op_in(alloc: Global, actors: &mut SharedActors, op: OpRef<'_>) -> Result<Op, AllocError>
-    requires { IsOpWithin (op_of op) }
-    ensures { IfOk result (λ copy. copy ≡ op_of op.entry) }
+fn op_in(
+    alloc: Global,
+    actors: &mut SharedActors,
+    op: OpHead<'_>,
+    preds: &mut PredCursor<'_>,
+) -> Result<Op, AllocError>
+    requires { IsOpWithin (head_with op preds.old) }
+    ensures { IfOk result (λ copy. copy ≡ head_with op.entry preds.old) }
 {
     Ok(Op {
         obj: object_in(alloc, actors, op.obj)?,
@@ -151,7 +155,7 @@ fn op_in(alloc: Global, actors: &mut SharedActors, op: OpRef<'_>) -> Result<Op, 
         insert: op.insert,
         action: op.action,
         value: value_in(alloc, op.value)?,
-        preds: preds_in(alloc, actors, op.preds)?,
+        preds: preds_in(alloc, actors, preds)?,
         expand: op.expand,
         mark: mark_in(alloc, op.mark)?,
     })
@@ -168,8 +172,9 @@ fn ops_in(
 {
     let mut copy = Vec::with_capacity(alloc, ops.left() as usize)?;
     let mut rest = ops;
-    while let Some(op) = rest.next() {
-        copy.push(op_in(alloc, actors, op)?)?;
+    let mut preds = PredCursor::none();
+    while let Some(op) = rest.next_into(&mut preds) {
+        copy.push(op_in(alloc, actors, op, &mut preds)?)?;
     }
     Ok(List::from(copy))
 }

@@ -102,7 +102,7 @@ fn has_none(ids: &PredCursor<'_>) -> bool
 }
 
 // Whether the place is in a list or a text.
-fn is_list_place(key: KeyRef<'_>) -> bool
+pub fn is_list_place(key: KeyRef<'_>) -> bool
     ensures { IsTrue result ↔ IsListPlace (key_of key.entry) }
 {
     match key {
@@ -112,7 +112,7 @@ fn is_list_place(key: KeyRef<'_>) -> bool
     }
 }
 
-fn is_head(key: KeyRef<'_>) -> bool
+pub fn is_head(key: KeyRef<'_>) -> bool
     ensures { IsTrue result ↔ (key_of key.entry ≡ keys.Head) }
 {
     match key {
@@ -123,7 +123,7 @@ fn is_head(key: KeyRef<'_>) -> bool
 }
 
 // A mark's name is text.
-fn mark_known(mark: Option<&str>)
+pub fn mark_known(mark: Option<&str>)
     ensures { IfSome (option_map (λ s. s.now) mark.entry) IsUtf8 }
 {
     match mark {

@@ -14,7 +14,7 @@ ghost use Rattle.am_change.specs.Judgement.{Judges};
 
 use crate::copying::change_in;
 use crate::fault::ChangeFault;
-use crate::fine::are_fine_ops;
+use crate::fine::are_fine_with_values;
 use crate::fine_parts::is_fine_beside;
 use crate::front::FrontRef;
 use am_colmeta::Columns;
@@ -148,7 +148,7 @@ fn parsed(alloc: Global, bytes: &[u8]) -> Result<Change, ChangeFault>
     let Ok(change) = change_in(alloc, &front, behind.message, ops, behind.extra) else {
         return Err(ChangeFault::NoMemory);
     };
-    if !are_fine_ops(change.ops.as_slice()) {
+    if !are_fine_with_values(change.ops.as_slice()) {
         return Err(ChangeFault::BadChange);
     }
     let Ok(canonical) = is_canonical_of(alloc, &front, &behind, change.ops.as_slice()) else {

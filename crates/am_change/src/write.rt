@@ -7,7 +7,7 @@ ghost use Rattle.am_change.specs.Contents.{hashes_bytes, head, contents, chunk, 
 use am_frame::framed;
 use am_leb::{push_i, push_u};
 use am_opcols::write_ops;
-use am_types::{ActorId, Bytes, Change, Hash};
+use am_types::{ActorId, Bytes, Hash, ReadChange};
 use sha2::{Digest, Sha256};
 use std::alloc::{AllocError, Global};
 
@@ -45,54 +45,54 @@ fn push_actors(out: &mut Vec<u8>, actors: &[ActorId]) -> Result<(), AllocError>
 }
 
 // Appends what stands before the operations.
-fn push_head(out: &mut Vec<u8>, change: &Change) -> Result<(), AllocError>
-    ensures { OnOk result (out.new.items ≡ out.old.items ++ head change.now) }
+fn push_head<C: ReadChange>(out: &mut Vec<u8>, change: &C) -> Result<(), AllocError>
+    ensures { OnOk result (out.new.items ≡ out.old.items ++ head (C.change change.now)) }
 {
-    push_hashes(out, change.deps.as_slice())?;
-    push_prefixed(out, change.actor.as_slice())?;
-    push_u(out, change.seq)?;
-    push_u(out, change.start)?;
-    push_i(out, change.time)?;
-    push_prefixed(out, change.message.as_str().as_bytes())
+    push_hashes(out, change.deps())?;
+    push_prefixed(out, change.actor().as_slice())?;
+    push_u(out, change.seq())?;
+    push_u(out, change.start())?;
+    push_i(out, change.time())?;
+    push_prefixed(out, change.message().as_bytes())
 }
 
 // The contents of the chunk of a fine change.
 #[tactic(auto, unfolding(crate::specs::Contents::contents))]
-fn contents_in(alloc: Global, change: &Change) -> Result<Vec<u8>, AllocError>
-    requires { Fine change.now }
-    ensures { IfOk result (λ bytes. bytes.items ≡ contents change.now) }
+fn contents_in<C: ReadChange>(alloc: Global, change: &C) -> Result<Vec<u8>, AllocError>
+    requires { Fine (C.change change.now) }
+    ensures { IfOk result (λ bytes. bytes.items ≡ contents (C.change change.now)) }
 {
-    let text = write_ops(alloc, change.ops.as_slice(), &change.actor)?;
+    let text = write_ops(alloc, change.ops(), change.actor())?;
     let mut out = Vec::with_capacity(alloc, text.body.len().saturating_add(BESIDE))?;
     push_head(&mut out, change)?;
     push_actors(&mut out, text.others.as_slice())?;
     out.extend_from_slice(text.metadata.as_slice())?;
     out.extend_from_slice(text.body.as_slice())?;
-    out.extend_from_slice(change.extra.as_slice())?;
+    out.extend_from_slice(change.extra())?;
     Ok(out)
 }
 
 /// The contents of the chunk of a fine change: its one canonical spelling.
-pub fn contents_of(alloc: Global, change: &Change) -> Result<Bytes, AllocError>
-    requires { Fine change.now }
-    ensures { IfOk result (λ bytes. bytes ≡ contents change.now) }
+pub fn contents_of<C: ReadChange>(alloc: Global, change: &C) -> Result<Bytes, AllocError>
+    requires { Fine (C.change change.now) }
+    ensures { IfOk result (λ bytes. bytes ≡ contents (C.change change.now)) }
 {
     Ok(Bytes::from(contents_in(alloc, change)?))
 }
 
 /// The chunk of a fine change.
-pub fn chunk_of(alloc: Global, change: &Change) -> Result<Bytes, AllocError>
-    requires { Fine change.now }
-    ensures { IfOk result (λ bytes. bytes ≡ chunk change.now) }
+pub fn chunk_of<C: ReadChange>(alloc: Global, change: &C) -> Result<Bytes, AllocError>
+    requires { Fine (C.change change.now) }
+    ensures { IfOk result (λ bytes. bytes ≡ chunk (C.change change.now)) }
 {
     let contents = contents_in(alloc, change)?;
     framed(alloc, 1, &contents)
 }
 
 /// The hash of a fine change, by which others name it.
-pub fn hash_of(alloc: Global, change: &Change) -> Result<Hash, AllocError>
-    requires { Fine change.now }
-    ensures { IfOk result (λ digest. digest.0 ≡ hash change.now) }
+pub fn hash_of<C: ReadChange>(alloc: Global, change: &C) -> Result<Hash, AllocError>
+    requires { Fine (C.change change.now) }
+    ensures { IfOk result (λ digest. digest.0 ≡ hash (C.change change.now)) }
 {
     let contents = contents_in(alloc, change)?;
     let mut first = Vec::new(alloc);

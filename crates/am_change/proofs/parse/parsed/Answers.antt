@@ -1,5 +1,7 @@
 use Rattle.std.proofs.Common.{◌≡◌, List, ◌∷◌, All, refl, sym, subst, ap, ◌∙◌, arith}
 use Rattle.std.specs.List.{AllByRecursion}
+use Rattle.std.proofs.lemmas.List.Elements.{All-from_recursion, recursion_from_All}
+use Rattle.am_types.specs.Values.{Good}
 use Rattle.am_types.specs.declared.Op.{Op}
 use Rattle.am_types.specs.declared.Change.{Change}
 use Rattle.am_types.specs.Fine.{Fine, FineOp}
@@ -9,7 +11,7 @@ use Rattle.am_opcols.specs.Writing.{written_columns}
 use Rattle.am_opcols.proofs.CanonicalLaws.{length-preds}
 use Rattle.am_change.specs.Contents.{contents}
 use Rattle.am_change.specs.Building.{front_of, change_with, IsOpWithin}
-use Rattle.am_change.proofs.Parsing.{no_front, no_change, same_change, ops_within}
+use Rattle.am_change.proofs.Parsing.{no_front, no_change, same_change, ops_within, good_values}
 use Rattle.am_change.proofs.InPlace.{own_contents, canonical_as}
 use Rattle.am_change.proofs.parse.parsed.Goals as goal
 
@@ -52,15 +54,22 @@ change_in-requires c =
       within = subst (AllByRecursion IsOpWithin) (sym c.again-ops.ensures) (ops_within behind.ops (c.in-Some-opened.ensures.spelled).within);
     }
 
-pub returns-then-not-are_fine_ops : goal.returns-then-not-are_fine_ops
-returns-then-not-are_fine_ops c =
+pub are_fine_with_values-requires : goal.are_fine_with_values-requires
+are_fine_with_values-requires c =
+    let behind = c.in-Some-opened.behind in
+    let whole : c.in-Ok.change ≡ change_with (front_of c.in-Some.front) behind.ops behind.extra.now = c.in-Ok.ensures ∙ ap (λ (os : List Op). change_with (front_of c.in-Some.front) os behind.extra.now) c.again-ops.ensures in
+    let read : c.as_slice.result.now ≡ behind.ops = c.as_slice.ensures ∙ ap (λ (x : Change). x.ops) whole in
+    subst (AllByRecursion (λ (op : Op). Good op.value)) (sym read) (good_values behind.ops ((c.in-Some-opened.ensures.spelled).within.values))
+
+pub returns-then-not-are_fine_with_values : goal.returns-then-not-are_fine_with_values
+returns-then-not-are_fine_with_values c =
     let behind = c.in-Some-opened.behind in
     let whole : c.in-Ok.change ≡ change_with (front_of c.in-Some.front) behind.ops behind.extra.now = c.in-Ok.ensures ∙ ap (λ (os : List Op). change_with (front_of c.in-Some.front) os behind.extra.now) c.again-ops.ensures in
     no_change c.args.bytes.now (front_of c.in-Some.front) c.in-Some.rest.now c.length_known.ensures c.in-Some.ensures.some.0 c.in-Some.ensures.some.1 (λ h. absurd (cc (c.if-compressed.ensures.some.1 h)))
     (λ d fine s e r b.
     let got = c.in-Some-opened.ensures.only d fine s e r in
     let own : c.as_slice.result.now ≡ d.ops = c.as_slice.ensures ∙ ap (λ (x : Change). x.ops) whole ∙ got.0 in
-    absurd (cc (c.if-not-are_fine_ops.ensures.1 (subst (All FineOp) (sym own) fine.ops))))
+    absurd (cc (c.if-not-are_fine_with_values.ensures.1 (recursion_from_All FineOp c.as_slice.result.now (subst (All FineOp) (sym own) fine.ops)))))
 
 pub is_canonical_of-requires : goal.is_canonical_of-requires
 is_canonical_of-requires c =
@@ -94,6 +103,6 @@ returns c =
     (canonical.0 ∙ ap (others f.actor) own) (canonical.1 ∙ ap (written_columns f.actor) own) in
     let within = (c.in-Some-opened.ensures.spelled).within in
     let read : c.as_slice.result.now ≡ behind.ops = c.as_slice.ensures ∙ ap (λ (x : Change). x.ops) whole in
-    let each : All FineOp behind.ops = subst (All FineOp) read (c.if-not-are_fine_ops.ensures.0 refl) in
+    let each : All FineOp behind.ops = subst (All FineOp) read (All-from_recursion FineOp c.as_slice.result.now (c.if-not-are_fine_with_values.ensures.0 refl)) in
     let fine = c.if-not-is_fine_beside.ensures.fine refl behind.ops (sym c.left-count.ensures) (omega (arith, within.few_preds, length-preds behind.ops)) each in
     (subst Fine (sym whole) fine, subst (λ (x : Change). c.args.bytes.now ≡ contents x) (sym whole) told)

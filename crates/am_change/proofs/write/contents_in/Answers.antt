@@ -9,11 +9,11 @@ use Rattle.am_change.proofs.write.contents_in.Goals as goal
 
 pub returns : goal.returns
 unfolding contents
-returns c =
-    let actor = c.args.change.now.actor in
-    let ops = c.as_slice.ensures in
+returns g c =
+    let actor = c.actor.ensures in
+    let ops = c.ops.ensures in
     five c.in_ok-out.out.items _ _ _ _ _ _ _ _ _ _ _ _ _ _ c.in_ok-out.ensures.items c.in_ok-push_head.ensures c.in_ok-push_actors.ensures c.in_ok-extend_from_slice.ensures.items c.in_ok-extend_from_slice-2.ensures.items c.in_ok-extend_from_slice-3.ensures.items
-    (ap actors_bytes (c.as_slice-2.ensures ∙ c.in_ok-text.ensures.others ∙ ap (λ o. others actor o) ops))
-    (c.as_slice-3.ensures ∙ c.in_ok-text.ensures.metadata ∙ ap (λ o. metadata (listing (written_columns actor o))) ops)
-    (c.as_slice-4.ensures ∙ c.in_ok-text.ensures.body ∙ ap (λ o. body (written_columns actor o)) ops)
-    c.as_slice-5.ensures
+    (ap actors_bytes (c.as_slice.ensures ∙ c.in_ok-text.ensures.others ∙ (λ j. others (actor j) (ops j))))
+    (c.as_slice-2.ensures ∙ c.in_ok-text.ensures.metadata ∙ (λ j. metadata (listing (written_columns (actor j) (ops j)))))
+    (c.as_slice-3.ensures ∙ c.in_ok-text.ensures.body ∙ (λ j. body (written_columns (actor j) (ops j))))
+    c.extra.ensures
