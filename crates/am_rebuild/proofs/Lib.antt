@@ -13,6 +13,7 @@ pub mod Placed
 pub mod Known
 pub mod Ascending
 pub mod Runs
+pub mod Shorts
 pub mod Loop
 pub mod Paths
 pub mod Apart

@@ -1,8 +1,7 @@
 -- The preds of a group that names the id once, or never.
-use Rattle.std.proofs.Common.{ℕ, ◌≡◌, ◌≤◌, List, [], ◌∷◌, length, map, filter, not, Bool, true, false, Option, Some, None, option_map, refl, sym, ap, ◌∙◌, inl, inr, arith}
+use Rattle.std.proofs.Common.{◌≡◌, ◌≤◌, List, [], ◌∷◌, length, map, filter, not, Bool, Some, None, option_map, refl, sym, ap, ◌∙◌, inl, inr, arith}
 use Rattle.std.specs.List.{find}
 use Rattle.std.proofs.lemmas.Bool.{cases_Bool}
-use Rattle.am_types.specs.declared.OpId.{OpId}
 use Rattle.am_types.specs.declared.Row.{Row}
 use Rattle.am_histories.specs.Rebuilt.{each_once}
 use Rattle.am_rebuild.specs.Mentions.{Mention, group_preds}

@@ -7,5 +7,8 @@ pub mod Gathered
 pub mod Told
 pub mod Copied
 pub mod Lent
+pub mod LentPreds
+pub mod LentOps
+pub mod LentChanges
 pub mod Lending
 pub mod Documents

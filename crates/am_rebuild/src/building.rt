@@ -9,22 +9,23 @@ ghost use Rattle.std.specs.Prelude.{◌≡◌, [], ◌^◌, ◌<◌, List, All, 
 
 use crate::change::change_at;
 use crate::joining::Joining;
+use crate::lent_change::LentChange;
 use crate::mention::Named;
-use am_types::{Change, Meta, SharedActors};
+use am_types::Meta;
 use std::alloc::{AllocError, Global};
 
 /// Takes in what was built of a meta, where it is a change that joins.
 fn join_next<J: Joining>(
     alloc: Global,
     joining: &mut J,
-    change: Option<Change>,
+    change: Option<LentChange<'_>>,
 ) -> Result<bool, AllocError>
-    ensures { IfOk result (λ joined. (rows : List Row) (meta : AMeta) → BuildsOne rows (J.members joining.old) meta change → TakesNext J.hash_of rows (J.members joining.old) meta (J.members joining.new) joined) }
+    ensures { IfOk result (λ joined. (rows : List Row) (meta : AMeta) → BuildsOne rows (J.members joining.old) meta change.entry → TakesNext J.hash_of rows (J.members joining.old) meta (J.members joining.new) joined) }
 {
     match change {
         None => Ok(false),
         Some(change) => {
-            let joined = joining.join(alloc, change)?;
+            let joined = joining.join(alloc, &change)?;
             Ok(joined)
         }
     }
@@ -45,10 +46,9 @@ pub(crate) fn build_from<J: Joining>(
     requires maxes { All (λ m. m.max < 2 ^ 53) metas.now }
     ensures { IfOk result (λ built. (t : Table) → AreSortedMentions t.rows all.entry.items → t.metas ≡ metas.now → BuildsGapless J.hash_of t (J.members joining.new) built) }
 {
-    let mut known = SharedActors::new(alloc);
     let mut left = all;
     for (i, meta) in metas.iter().enumerate() {
-        let change = change_at(alloc, &mut known, joining, names, &left, meta)?;
+        let change = change_at(alloc, joining, names, &left, meta)?;
         if i + 1 == metas.len() {
             left = Vec::new(alloc);
         }

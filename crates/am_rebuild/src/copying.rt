@@ -14,7 +14,7 @@ use am_types::{
 };
 use std::alloc::{AllocError, Global};
 
-fn bytes_in(alloc: Global, bytes: &[u8]) -> Result<Bytes, AllocError>
+pub(crate) fn bytes_in(alloc: Global, bytes: &[u8]) -> Result<Bytes, AllocError>
     ensures { IfOk result (λ copy. copy ≡ bytes.now) }
 {
     let mut copy = Bytes::new(alloc);
@@ -22,7 +22,7 @@ fn bytes_in(alloc: Global, bytes: &[u8]) -> Result<Bytes, AllocError>
     Ok(copy)
 }
 
-fn text_in(alloc: Global, text: &str) -> Result<Text, AllocError>
+pub(crate) fn text_in(alloc: Global, text: &str) -> Result<Text, AllocError>
     ensures { IfOk result (λ copy. copy ≡ text.now) }
 {
     let mut copy = Text::new(alloc);

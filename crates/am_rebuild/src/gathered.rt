@@ -11,10 +11,11 @@ ghost use Rattle.am_delivery.specs.Waiting.{members_of};
 ghost use Rattle.am_rebuild.specs.Gathered.{IsOfSet, MayGrow};
 
 use crate::lasts::raise;
+use crate::owned::owned;
 use am_delivery::joined_is_valid;
 use am_fits::{OpIndex, fits};
 use am_graph::Graph;
-use am_types::{Change, Hash, Verdict, hash_known};
+use am_types::{Change, Hash, ReadChange, SharedActors, Verdict, hash_known};
 use indexmap::IndexMap;
 use std::alloc::{AllocError, Global};
 use std::marker::Model;
@@ -27,6 +28,8 @@ pub struct Gathered {
     pub(crate) index: OpIndex,
     /// The greatest last counter of each actor's changes.
     pub(crate) lasts: IndexMap<Vec<u8>, u64>,
+    /// The actors of the changes, whose bytes are shared.
+    pub(crate) actors: SharedActors,
 }
 
 impl Model for Gathered {
@@ -55,19 +58,19 @@ fn holds_all(graph: &Graph, hashes: &[Hash]) -> bool
 }
 
 /// Whether a fine change with this hash joins.
-pub(crate) fn may_join(
+pub(crate) fn may_join<C: ReadChange>(
     alloc: Global,
     graph: &Graph,
     index: &OpIndex,
     hash: &Hash,
-    change: &Change,
+    change: &C,
 ) -> Result<bool, AllocError>
-    requires fine { Fine change.now }
+    requires fine { Fine (C.change change.now) }
     requires set { IsOfSet graph.now index.now }
-    ensures { IfOk result (λ told. (C : List Member) → AreOf C graph.now index.now → Valid C → IsTrue told ↔ Joins C (record { hash = hash.now; change = change.now })) }
+    ensures { IfOk result (λ told. (D : List Member) → AreOf D graph.now index.now → Valid D → IsTrue told ↔ Joins D (record { hash = hash.now; change = C.change change.now })) }
 {
     hash_known(hash);
-    if graph.holds(hash) || !holds_all(graph, change.deps.as_slice()) {
+    if graph.holds(hash) || !holds_all(graph, change.deps()) {
         return Ok(false);
     }
     let verdict = fits(alloc, graph, index, change)?;
@@ -106,8 +109,8 @@ fn enter(
     Ok(())
 }
 
-/// Takes a change in, behind those that are there.
-pub(crate) fn grow(
+// Takes a change in, behind those that are there.
+fn gather(
     alloc: Global,
     gathered: &mut Gathered,
     hash: Hash,
@@ -131,4 +134,19 @@ pub(crate) fn grow(
     raise(&mut gathered.lasts, name, last);
     gathered.entries.push((hash, change))?;
     Ok(())
+}
+
+/// Takes a change in, owned, behind those that are there.
+pub(crate) fn grow<C: ReadChange>(
+    alloc: Global,
+    gathered: &mut Gathered,
+    hash: Hash,
+    change: &C,
+) -> Result<(), AllocError>
+    requires fine { Fine (C.change change.now) }
+    requires joins { Joins gathered.old (record { hash = hash; change = C.change change.now }) }
+    ensures ok { OnOk result (gathered.new ≡ gathered.old ++ record { hash = hash; change = C.change change.now } ∷ []) }
+{
+    let owned = owned(alloc, &mut gathered.actors, change)?;
+    gather(alloc, gathered, hash, owned)
 }

@@ -7,7 +7,8 @@ ghost use Rattle.am_histories.specs.Rebuilt.{hash_at, last_max};
 ghost use Rattle.am_rebuild.specs.Joined.{member_of, Joined};
 ghost use Rattle.std.specs.Prelude.{◌≡◌, ◌<◌, List, length, IfOk};
 
-use am_types::{Change, Hash, List};
+use crate::lent_change::LentChange;
+use am_types::{Hash, List};
 use std::alloc::{AllocError, Global};
 
 /// Members that joined so far.
@@ -27,8 +28,8 @@ pub trait Joining {
         ensures { result ≡ last_max (members self.now) actor.now };
 
     /// Takes the change in where it joins.
-    fn join(&mut self, alloc: Global, change: Change) -> Result<bool, AllocError>
-        ensures { IfOk result (Joined (members self.old) (member_of hash_of change) (members self.new)) };
+    fn join(&mut self, alloc: Global, change: &LentChange<'_>) -> Result<bool, AllocError>
+        ensures { IfOk result (Joined (members self.old) (member_of hash_of change.now) (members self.new)) };
 
     /// How many operations they have.
     fn operation_count(&self) -> u64

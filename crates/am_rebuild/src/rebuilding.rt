@@ -9,11 +9,12 @@ ghost use Rattle.am_delivery.specs.Waiting.{members_of};
 use crate::gathered::{Gathered, grow, may_join};
 use crate::joining::Joining;
 use crate::lasts::last_in;
+use crate::lent_change::LentChange;
 use crate::rebuilt::Rebuilt;
 use am_change::{hash_of, is_fine};
 use am_fits::OpIndex;
 use am_graph::Graph;
-use am_types::{Change, Hash, List};
+use am_types::{Hash, List, SharedActors};
 use indexmap::IndexMap;
 use std::alloc::{AllocError, Global};
 
@@ -27,6 +28,7 @@ impl Gathered {
             graph: Graph::new(alloc),
             index: OpIndex::new(alloc),
             lasts: IndexMap::new(alloc),
+            actors: SharedActors::new(alloc),
         }
     }
 
@@ -61,12 +63,12 @@ impl Joining for Gathered {
         last_in(&self.lasts, actor)
     }
 
-    fn join(&mut self, alloc: Global, change: Change) -> Result<bool, AllocError> {
-        if !is_fine(&change) {
+    fn join(&mut self, alloc: Global, change: &LentChange<'_>) -> Result<bool, AllocError> {
+        if !is_fine(change) {
             return Ok(false);
         }
-        let hash = hash_of(alloc, &change)?;
-        if !may_join(alloc, &self.graph, &self.index, &hash, &change)? {
+        let hash = hash_of(alloc, change)?;
+        if !may_join(alloc, &self.graph, &self.index, &hash, change)? {
             return Ok(false);
         }
         grow(alloc, self, hash, change)?;

@@ -9,7 +9,7 @@ use Rattle.am_types.specs.ValidSets.{Joins}
 use Rattle.am_delivery.specs.Waiting.{member_of}
 use Rattle.am_rebuild.specs.Gathered.{Lasts, last_in}
 use Rattle.am_rebuild.proofs.Grown.{gathered_more}
-use Rattle.am_rebuild.proofs.gathered.grow.Goals as goal
+use Rattle.am_rebuild.proofs.gathered.gather.Goals as goal
 
 pub invariant_of-gathered-2 : goal.invariant_of-gathered-2
 invariant_of-gathered-2 c =
