@@ -71,8 +71,8 @@ fn falling<'a>(spot: &SpotRef<'a>) -> IdRef<'a>
     }
 }
 
-/// By the id: the least first, but of insertions the greatest.
-pub fn compare_turns(a: &SpotRef<'_>, b: &SpotRef<'_>) -> Ordering
+// By the id: the least first, but of insertions the greatest.
+fn compare_turns(a: &SpotRef<'_>, b: &SpotRef<'_>) -> Ordering
     ensures { result ≡ id_turn_cmp (spot_in a.now) (spot_in b.now) }
 {
     match compare_ids(rising(a), rising(b)) {

@@ -164,7 +164,7 @@ impl<'a> Start<'a> {
     }
 }
 
-/// Sorts them in the order of the walk, if they are given in ascending id.
+/// Sorts them by where they start. What ties stays in order: so those given in ascending id stand in the order of the walk.
 pub fn sort_starts(all: &mut Vec<Start<'_>>) -> Result<(), AllocError>
     ensures { OnOk result (all.new.items ≡ sorted_by by_start all.old.items) }
 {

@@ -3,7 +3,8 @@ use crate::lent_op::LentOp;
 use am_types::{ActorId, Hash, List, Meta, ReadChange};
 use std::marker::Model;
 
-/// A change whose operations are lent by rows, and the rest by its change row. Contracts see the change.
+/// A change whose operations are lent by rows, and most of the rest by its change row; its dependencies and its start are its
+/// own. Contracts see the change.
 #[derive(Drop)]
 pub struct LentChange<'a> {
     pub(crate) deps: List<Hash>,

@@ -1,5 +1,5 @@
 //! Changes that are owned, of those that can be read.
-ghost use Rattle.std.specs.Prelude.{◌≡◌, All, IfOk, OnOk, ◌++◌, map};
+ghost use Rattle.std.specs.Prelude.{◌≡◌, All, IfOk, map};
 ghost use Rattle.am_types.specs.Fine.{Fine, FineOp, IsId};
 
 use crate::copying::{bytes_in, id_in, key_in, mark_in, object_in, text_in, value_in};
