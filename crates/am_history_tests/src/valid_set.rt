@@ -1,54 +1,184 @@
 //! For tests: changes of a history as a valid set, listed in any order. That it is valid is found at run time, as each of
 //! them joins those before it.
-ghost use Rattle.std.specs.Prelude.{IfOk, OnOk, vec_items};
-ghost use Rattle.am_types.specs.ValidSets.{IsValidSet, Valid};
+ghost use Rattle.std.specs.Prelude.{◌≡◌, ◌++◌, ◌∷◌, [], List, IfOk, IsTrue, OnOk, vec_items};
+ghost use Rattle.std.specs.List.{list_all};
+ghost use Rattle.am_types.specs.Fine.{Fine};
+ghost use Rattle.am_types.specs.Members.{Member, holds};
+ghost use Rattle.am_types.specs.ValidSets.{IsValidSet, Joins, Valid};
 ghost use Rattle.am_delivery.specs.Waiting.{members_of};
+ghost use Rattle.am_fits.specs.Indexes.{AreOf};
+ghost use Rattle.am_graph.specs.Graphs.{ForSet};
+ghost use Rattle.am_rebuild.specs.Gathered.{IsOfSet, MayGrow};
 
 use crate::samples::{History, change_at};
-use am_rebuild::{Gathered, Joining};
-use am_types::{Change, Hash};
+use am_change::{hash_of, is_fine};
+use am_delivery::joined_is_valid;
+use am_fits::{OpIndex, fits};
+use am_graph::Graph;
+use am_types::{Change, Hash, Verdict, hash_known};
 use std::alloc::{AllocError, Global};
+use std::marker::Model;
 use std::test::Fail;
 
 // No history has more changes.
 const MOST: usize = 8;
 
-// Takes a change in. It depends on the first one, unless it starts where that does.
-fn join(alloc: Global, gathered: &mut Gathered, mut change: Change) -> Result<(), Fail> {
-    if change.start > 1 && gathered.count() > 0 {
-        change.deps.push(gathered.hash_at(0))?;
+// Changes that joined, with their graph and index. Contracts see the members.
+#[derive(Drop)]
+struct Joined {
+    entries: Vec<(Hash, Change)>,
+    graph: Graph,
+    index: OpIndex,
+}
+
+impl Model for Joined {
+    ghost use Rattle.std.specs.Prelude.{List};
+    ghost use Rattle.am_types.specs.Members.{Member};
+    ghost use Rattle.am_types.specs.ValidSets.{Valid};
+    ghost use Rattle.am_delivery.specs.Waiting.{members_of};
+    ghost use Rattle.am_fits.specs.Indexes.{AreOf};
+
+    ghost Value = { List Member };
+
+    ghost view = { λ j. members_of j.entries.items };
+
+    ghost invariant = { λ j. AreOf (members_of j.entries.items) j.graph j.index × Valid (members_of j.entries.items) };
+}
+
+fn none(alloc: Global) -> Joined {
+    Joined {
+        entries: Vec::new(alloc),
+        graph: Graph::new(alloc),
+        index: OpIndex::new(alloc),
     }
-    if !gathered.join(alloc, change)? {
-        return Err(Fail::from("a change doesn't join"));
+}
+
+// Whether all of these are hashes of changes of the graph.
+fn holds_all(graph: &Graph, hashes: &[Hash]) -> bool
+    ensures { ForSet graph.now (λ C. result ≡ list_all (holds C) hashes.now) }
+{
+    for hash in hashes {
+        if !graph.holds(hash) {
+            return false;
+        }
     }
+    true
+}
+
+// Whether a fine change with this hash joins.
+fn may_join(
+    alloc: Global,
+    graph: &Graph,
+    index: &OpIndex,
+    hash: &Hash,
+    change: &Change,
+) -> Result<bool, AllocError>
+    requires fine { Fine change.now }
+    requires set { IsOfSet graph.now index.now }
+    ensures { IfOk result (λ told. (D : List Member) → AreOf D graph.now index.now → Valid D → IsTrue told → Joins D (record { hash = hash.now; change = change.now })) }
+{
+    hash_known(hash);
+    if graph.holds(hash) || !holds_all(graph, change.deps.as_slice()) {
+        return Ok(false);
+    }
+    let verdict = fits(alloc, graph, index, change)?;
+    Ok(matches!(verdict, Verdict::Fits))
+}
+
+// Takes a change that joins into both.
+fn enter(
+    alloc: Global,
+    graph: &mut Graph,
+    index: &mut OpIndex,
+    hash: Hash,
+    change: &Change,
+) -> Result<(), Fail>
+    requires { MayGrow graph.old index.old (record { hash = hash; change = change.now }) }
+    ensures { OnOk result ((C : List Member) → AreOf C graph.old index.old → AreOf (C ++ record { hash = hash; change = change.now } ∷ []) graph.new index.new) }
+{
+    index.admit(alloc, change)?;
+    let count = change.ops.len() as u64;
+    graph.add(
+        alloc,
+        hash,
+        &change.actor,
+        change.seq,
+        change.start,
+        count,
+        change.deps.as_slice(),
+    )?;
     Ok(())
 }
 
-// Takes in the changes that have these numbers, in ascending order of the numbers. Gives these in this order.
+// Takes a change in.
+fn take_in(
+    alloc: Global,
+    entries: &mut Vec<(Hash, Change)>,
+    graph: &mut Graph,
+    index: &mut OpIndex,
+    change: Change,
+) -> Result<(), Fail>
+    requires of_set { AreOf (members_of entries.old.items) graph.old index.old }
+    requires valid { Valid (members_of entries.old.items) }
+    ensures of_set { OnOk result (AreOf (members_of entries.new.items) graph.new index.new) }
+    ensures valid { OnOk result (Valid (members_of entries.new.items)) }
+{
+    joined_is_valid();
+    if !is_fine(&change) {
+        return Err(Fail::from("a change isn't fine"));
+    }
+    let hash = hash_of(alloc, &change)?;
+    if !may_join(alloc, graph, index, &hash, &change)? {
+        return Err(Fail::from("a change doesn't join"));
+    }
+    enter(alloc, graph, index, hash, &change)?;
+    entries.push((hash, change))?;
+    Ok(())
+}
+
+// The set with one more change. It depends on the first one, unless it starts where that does.
+fn join(alloc: Global, set: Joined, mut change: Change) -> Result<Joined, Fail> {
+    let Joined {
+        mut entries,
+        mut graph,
+        mut index,
+    } = set;
+    if change.start > 1 && entries.len() > 0 {
+        change.deps.push(entries[0].0)?;
+    }
+    take_in(alloc, &mut entries, &mut graph, &mut index, change)?;
+    Ok(Joined {
+        entries,
+        graph,
+        index,
+    })
+}
+
+// The changes that have these numbers, taken in by ascending number, and these numbers in this order.
 fn join_all(
     alloc: Global,
-    gathered: &mut Gathered,
     history: &History,
     numbers: &[usize],
-) -> Result<Vec<usize>, Fail> {
+) -> Result<(Joined, Vec<usize>), Fail> {
+    let mut set = none(alloc);
     let mut taken = Vec::new(alloc);
     for number in 0..MOST {
         if numbers.contains(&number) {
             let Some(change) = change_at(alloc, history, number)? else {
                 return Err(Fail::from("no such change"));
             };
-            join(alloc, gathered, change)?;
+            set = join(alloc, set, change)?;
             taken.push(number)?;
         }
     }
-    Ok(taken)
+    Ok((set, taken))
 }
 
 // The changes that joined.
-fn entries_of(gathered: Gathered) -> Vec<(Hash, Change)>
+fn entries_of(set: Joined) -> Vec<(Hash, Change)>
     ensures { Valid (members_of (vec_items result)) }
 {
-    gathered.into_rebuilt().entries
+    set.entries
 }
 
 // Exchanges two changes, if they are there.
@@ -103,9 +233,8 @@ fn without_hashes(alloc: Global, entries: Vec<(Hash, Change)>) -> Result<Vec<Cha
 pub fn valid_set(alloc: Global, history: &History, numbers: &[usize]) -> Result<Vec<Change>, Fail>
     ensures { IfOk result (λ changes. IsValidSet (vec_items changes)) }
 {
-    let mut gathered = Gathered::new(alloc);
-    let mut taken = join_all(alloc, &mut gathered, history, numbers)?;
-    let mut entries = entries_of(gathered);
+    let (set, mut taken) = join_all(alloc, history, numbers)?;
+    let mut entries = entries_of(set);
     put_in_order(&mut entries, &mut taken, numbers)?;
     Ok(without_hashes(alloc, entries)?)
 }
