@@ -79,6 +79,53 @@ fn reads_an_operation(rt: HostRuntime) {
     is_one(&rt, &mut ops);
 }
 
+// The metadata and the columns of a change that sets the name `a` to 2 over two operations of the same actor, and then the
+// name `b` to 3 over none.
+const METADATA_OF_TWO: [u8; 17] = [
+    0x08, 0x15, 0x05, 0x34, 0x01, 0x42, 0x02, 0x56, 0x02, 0x57, 0x02, 0x70, 0x03, 0x71, 0x02, 0x73,
+    0x02,
+];
+
+const BODY_OF_TWO: [u8; 19] = [
+    0x7e, 0x01, 0x61, 0x01, 0x62, 0x02, 0x02, 0x01, 0x02, 0x13, 0x02, 0x03, 0x7e, 0x02, 0x00, 0x02,
+    0x00, 0x02, 0x01,
+];
+
+// Of the next operation the first byte of its value, and the counter of the first of its predecessors, which are read into
+// a cursor that is there.
+type Told = Option<(Option<u8>, Option<u64>)>;
+
+fn told_into<'a>(ops: &mut OpCursor<'a>, preds: &mut PredCursor<'a>) -> Told {
+    let head = ops.next_into(preds)?;
+    let pred = match preds.next() {
+        Some(pred) => Some(pred.counter),
+        None => None,
+    };
+    Some((head.value.raw.first().copied(), pred))
+}
+
+// What three readings into one cursor tell.
+fn three_told(mut ops: OpCursor<'_>) -> (Told, Told, Told) {
+    let mut preds = PredCursor::none();
+    (
+        told_into(&mut ops, &mut preds),
+        told_into(&mut ops, &mut preds),
+        told_into(&mut ops, &mut preds),
+    )
+}
+
+fn told() -> Option<(Told, Told, Told)> {
+    let ops = cursor(&METADATA_OF_TWO, &BODY_OF_TWO, &[0x00])?;
+    Some(three_told(ops))
+}
+
+// One of the two predecessors is still unread when the second operation is read.
+#[test]
+fn reads_predecessors_into_one_cursor(rt: HostRuntime) {
+    let told = told();
+    assert!(rt; told == Some((Some((Some(2), Some(1))), Some((Some(3), None)), None)));
+}
+
 // Whether an operation can be read from the body.
 fn is_read(body: &[u8]) -> bool {
     cursor(&METADATA, body, &[0x00]).is_some()
