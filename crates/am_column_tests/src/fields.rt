@@ -1,9 +1,11 @@
 //! Outside values: the columns of the change that makes the text `ab`, part by part, and what each part refuses.
+ghost use Rattle.std.specs.Prelude.{◌≡◌, ◌≤◌, length, drop};
+
 use am_colmeta::ActorList;
 use am_fields::{
-    ActionColumn, Actors, DeltaColumn, FlagColumn, GREATEST_COUNTER, GroupColumns, IdColumns,
-    IdCursor, KeyColumns, NumberColumn, NumberWriter, ObjectColumns, TextColumn, TextWriter,
-    ValueColumns, is_given,
+    ActionColumn, Actors, CountedObjects, DeltaColumn, FlagColumn, GREATEST_COUNTER, GroupColumns,
+    IdColumns, IdCursor, KeyColumns, NumberColumn, NumberWriter, ObjectColumns, TextColumn,
+    TextWriter, ValueColumns, is_given,
 };
 use am_flags::FlagWriter;
 use am_types::{KeyRef, ObjRef};
@@ -78,6 +80,87 @@ fn reads_objects(rt: HostRuntime) {
     assert!(rt; ObjectColumns::over(&places, &counters, &bare.again(), 3).is_err());
 }
 
+// The objects of six rows: the root twice, one that the author made, one of another actor and of the same counter twice,
+// and a later one of the author.
+const OBJECT_ACTORS: [u8; 8] = [0x00, 0x02, 0x7f, 0x00, 0x02, 0x01, 0x7f, 0x00];
+
+const OBJECT_COUNTERS: [u8; 6] = [0x00, 0x02, 0x03, 0x01, 0x7f, 0x02];
+
+// The counter of its id and the first byte of the actor, or zeros for the root.
+type Told = (u64, u8);
+
+fn told(object: ObjRef<'_>) -> Told {
+    match object {
+        ObjRef::Root => (0, 0),
+        ObjRef::Made(id) => match id.actor.first() {
+            Some(byte) => (id.counter, *byte),
+            None => (id.counter, 0),
+        },
+    }
+}
+
+// The next three of these objects.
+fn three(objects: &mut CountedObjects<'_>) -> (Told, Told, Told)
+    requires { 3 ≤ length objects.old }
+    ensures { objects.new ≡ drop 3 objects.old }
+{
+    (
+        told(objects.next()),
+        told(objects.next()),
+        told(objects.next()),
+    )
+}
+
+type Six = ((Told, Told, Told), (Told, Told, Told));
+
+// The six objects.
+fn six(actors: &Actors<'_>) -> Option<Six> {
+    match CountedObjects::over(&OBJECT_ACTORS, &OBJECT_COUNTERS, actors, 6) {
+        Ok(mut objects) => Some((three(&mut objects), three(&mut objects))),
+        Err(_) => None,
+    }
+}
+
+// The last two of them, from a cursor and from the same again, and before them the fourth, with which the fifth was read.
+fn last_two(actors: &Actors<'_>) -> Option<(Told, Told, Told, Told, Told)> {
+    match CountedObjects::over(&OBJECT_ACTORS, &OBJECT_COUNTERS, actors, 6) {
+        Ok(mut objects) => {
+            three(&mut objects);
+            let fourth = told(objects.next());
+            let mut same = objects.again();
+            Some((
+                fourth,
+                told(same.next()),
+                told(same.next()),
+                told(objects.next()),
+                told(objects.next()),
+            ))
+        }
+        Err(_) => None,
+    }
+}
+
+fn are_objects(actors: &Actors<'_>, count: u64) -> bool {
+    CountedObjects::over(&OBJECT_ACTORS, &OBJECT_COUNTERS, actors, count).is_ok()
+}
+
+#[test]
+fn counts_objects(rt: HostRuntime) {
+    let actors = actors_of(&rt, &[0x01, 0x01, 0xbb]);
+    let six = six(&actors);
+    let last = last_two(&actors);
+    let fewer = are_objects(&actors, 5);
+    let more = are_objects(&actors, 7);
+    assert!(rt;
+        six == Some((
+            ((0, 0), (0, 0), (1, 0xaa)),
+            ((1, 0xbb), (1, 0xbb), (2, 0xaa))
+        ))
+    );
+    assert!(rt; last == Some(((1, 0xbb), (1, 0xbb), (2, 0xaa), (1, 0xbb), (2, 0xaa))));
+    assert!(rt; !fewer && !more);
+}
+
 #[test]
 fn reads_keys(rt: HostRuntime) {
     let actors = actors_of(&rt, &[0x00]);
@@ -114,6 +197,25 @@ fn reads_values(rt: HostRuntime) {
     assert!(rt; null.next().kind == 0);
     assert!(rt; ValueColumns::over(&[], &[], 3).is_ok());
     assert!(rt; ValueColumns::over(&[], &[0x61], 3).is_err());
+}
+
+// How many values the columns have, if none of their numbers is null.
+fn values_given(numbers: &[u8], raw: &[u8], count: u64) -> Option<u64> {
+    match ValueColumns::given(numbers, raw, count) {
+        Ok(values) => Some(values.left()),
+        Err(_) => None,
+    }
+}
+
+#[test]
+fn reads_values_that_are_given(rt: HostRuntime) {
+    let numbers: [u8; 4] = [0x7f, 0x00, 0x02, 0x16];
+    assert!(rt; values_given(&numbers, &[0x61, 0x62], 3) == Some(3));
+    assert!(rt; values_given(&numbers, &[0x61, 0x62], 2).is_none());
+    assert!(rt; values_given(&numbers, &[0x61, 0x62], 4).is_none());
+    assert!(rt; values_given(&[0x00, 0x01], &[], 1).is_none());
+    assert!(rt; values_given(&[], &[], 1).is_none());
+    assert!(rt; values_given(&[], &[], 0) == Some(0));
 }
 
 #[test]
@@ -159,6 +261,35 @@ fn reads_groups_of_none(rt: HostRuntime) {
         is_given(&[0x7e, 0x00, 0x02], 2) && !is_given(&[0x00, 0x01], 1) && !is_given(&[], 1)
     );
     assert!(rt; IdCursor::none().next().is_none());
+}
+
+// How many lists the columns have, if none of their lengths is null.
+fn groups_given(
+    group: &[u8],
+    actor: &[u8],
+    counter: &[u8],
+    actors: &Actors<'_>,
+    count: u64,
+) -> Option<u64> {
+    match GroupColumns::given(group, actor, counter, actors, count) {
+        Ok(groups) => Some(groups.left()),
+        Err(_) => None,
+    }
+}
+
+#[test]
+fn reads_groups_that_are_given(rt: HostRuntime) {
+    let actors = actors_of(&rt, &[0x01, 0x01, 0xbb]);
+    let both = groups_given(
+        &[0x7e, 0x00, 0x02],
+        &[0x7e, 0x00, 0x01],
+        &[0x02, 0x01],
+        &actors,
+        2,
+    );
+    let null = groups_given(&[0x00, 0x01], &[], &[], &actors, 1);
+    let left_out = groups_given(&[], &[], &[], &actors, 1);
+    assert!(rt; both == Some(2) && null.is_none() && left_out.is_none());
 }
 
 #[test]
