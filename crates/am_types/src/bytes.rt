@@ -1,14 +1,19 @@
 //! Bytes that contracts see as their list.
-ghost use Rattle.std.specs.Prelude.{◌≡◌, ◌++◌, List, ℕ, [], length, OnOk, OnErr};
+ghost use Rattle.std.specs.Prelude.{◌≡◌, ◌≤◌, ◌++◌, List, ℕ, [], length, IsOk, IfOk, OnOk, OnErr};
 
+use smallvec::SmallVec;
 use std::alloc::{AllocError, Global};
 use std::marker::Model;
+use std::mem::size_of;
 
-/// Bytes that are owned. A contract sees them as their list.
+/// Bytes that are owned. A contract sees them as their list. Up to sixteen lie in the value itself and take no memory.
 #[derive(Debug, Drop)]
 pub struct Bytes {
-    bytes: Vec<u8>,
+    bytes: SmallVec<u8, 16>,
 }
+
+// Each value and each name of an operation has one, so it is to stay small.
+const _: () = prove!(size_of::<Bytes>() <= 32);
 
 impl Model for Bytes {
     ghost Value = { List ℕ };
@@ -22,8 +27,18 @@ impl Bytes {
         ensures { result ≡ [] }
     {
         Bytes {
-            bytes: Vec::new(alloc),
+            bytes: SmallVec::new(alloc),
         }
+    }
+
+    /// A copy of the bytes. A short one takes no memory.
+    pub fn copy_of(alloc: Global, bytes: &[u8]) -> Result<Self, AllocError>
+        ensures copy { IfOk result (λ copy. copy ≡ bytes.now) }
+        ensures short { length bytes.now ≤ 16 → IsOk result }
+    {
+        Ok(Bytes {
+            bytes: SmallVec::from_slice(alloc, bytes)?,
+        })
     }
 
     /// How many bytes there are.
@@ -37,7 +52,7 @@ impl Bytes {
     pub fn as_slice(&self) -> &[u8]
         ensures { result.now ≡ self.now }
     {
-        &self.bytes
+        self.bytes.as_slice()
     }
 
     /// Appends the bytes, all of them or, without memory, none.
@@ -53,7 +68,9 @@ impl From<Vec<u8>> for Bytes {
     ghost from_gives = { λ v b. b ≡ v.items };
 
     fn from(bytes: Vec<u8>) -> Self {
-        Bytes { bytes }
+        Bytes {
+            bytes: SmallVec::from_vec(bytes),
+        }
     }
 }
 

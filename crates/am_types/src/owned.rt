@@ -49,11 +49,7 @@ impl<'a> KeyRef<'a> {
         ensures copy { IfOk result (λ key. key ≡ key_of self.entry) }
     {
         match self {
-            KeyRef::Name(name) => {
-                let mut text = Text::new(alloc);
-                text.push_str(name)?;
-                Ok(Key::Name(text))
-            }
+            KeyRef::Name(name) => Ok(Key::Name(Text::copy_of(alloc, name)?)),
             KeyRef::Head => Ok(Key::Head),
             KeyRef::Elem(id) => Ok(Key::Elem(id.to_owned(alloc)?)),
         }
@@ -65,11 +61,9 @@ impl<'a> ValueRef<'a> {
     pub fn to_owned(self, alloc: Global) -> Result<RawValue, AllocError>
         ensures copy { IfOk result (λ value. value ≡ value_of self.entry) }
     {
-        let mut raw = Bytes::new(alloc);
-        raw.push_slice(self.raw)?;
         Ok(RawValue {
             kind: self.kind,
-            raw,
+            raw: Bytes::copy_of(alloc, self.raw)?,
         })
     }
 }

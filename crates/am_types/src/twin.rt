@@ -40,17 +40,13 @@ impl Twin for Hash {
 
 impl Twin for Bytes {
     fn copy(&self, alloc: Global) -> Result<Bytes, AllocError> {
-        let mut twin = Bytes::new(alloc);
-        twin.push_slice(self.as_slice())?;
-        Ok(twin)
+        Bytes::copy_of(alloc, self.as_slice())
     }
 }
 
 impl Twin for Text {
     fn copy(&self, alloc: Global) -> Result<Text, AllocError> {
-        let mut twin = Text::new(alloc);
-        twin.push_str(self.as_str())?;
-        Ok(twin)
+        Text::copy_of(alloc, self.as_str())
     }
 }
 

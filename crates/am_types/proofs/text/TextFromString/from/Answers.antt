@@ -1,0 +1,5 @@
+use Rattle.std.proofs.lemmas.Str.{IsUtf8-string_bytes}
+use Rattle.am_types.proofs.text.TextFromString.from.Goals as goal
+
+pub invariant_of-result : goal.invariant_of-result
+invariant_of-result c = ∣ rw c.from.ensures (rw c.into_bytes.ensures.value (IsUtf8-string_bytes c.args.text)) ∣₁
