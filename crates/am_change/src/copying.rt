@@ -18,18 +18,14 @@ use std::alloc::{AllocError, Global};
 fn bytes_in(alloc: Global, bytes: &[u8]) -> Result<Bytes, AllocError>
     ensures { IfOk result (λ copy. copy ≡ bytes.now) }
 {
-    let mut copy = Bytes::new(alloc);
-    copy.push_slice(bytes)?;
-    Ok(copy)
+    Bytes::copy_of(alloc, bytes)
 }
 
 // The text, owned.
 fn text_in(alloc: Global, text: &str) -> Result<Text, AllocError>
     ensures { IfOk result (λ copy. copy ≡ text.now) }
 {
-    let mut copy = Text::new(alloc);
-    copy.push_str(text)?;
-    Ok(copy)
+    Text::copy_of(alloc, text)
 }
 
 // The hash of these bytes.

@@ -259,5 +259,7 @@ fn takes_over_what_is_owned(rt: HostRuntime) -> Result<(), Fail> {
     let word = Text::from(format!(in alloc; "{}", "word")?);
     assert!(rt; word == text(alloc, "word")?);
     assert!(rt; (three.len(), word.len()) == (3, 4));
+    assert!(rt; three == Bytes::copy_of(alloc, &[1, 2, 3])?);
+    assert!(rt; word == Text::copy_of(alloc, "word")?);
     Ok(())
 }

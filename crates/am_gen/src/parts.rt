@@ -52,18 +52,17 @@ pub fn the_text(alloc: Global, actors: &mut SharedActors) -> Result<ObjId, Alloc
 pub fn key(alloc: Global, name: &str) -> Result<Key, AllocError>
     ensures { IfOk result (λ key. key ≡ Name name.now) }
 {
-    let mut text = Text::new(alloc);
-    text.push_str(name)?;
-    Ok(Key::Name(text))
+    Ok(Key::Name(Text::copy_of(alloc, name)?))
 }
 
 /// A value.
 pub fn value(alloc: Global, kind: u8, bytes: &[u8]) -> Result<RawValue, AllocError>
     ensures { IfOk result (λ v. v ≡ value kind bytes.now) }
 {
-    let mut raw = Bytes::new(alloc);
-    raw.push_slice(bytes)?;
-    Ok(RawValue { kind, raw })
+    Ok(RawValue {
+        kind,
+        raw: Bytes::copy_of(alloc, bytes)?,
+    })
 }
 
 /// An unsigned number.

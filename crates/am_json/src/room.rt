@@ -25,8 +25,7 @@ impl Digits {
     fn of(alloc: Global, actor: &[u8]) -> Result<Digits, AllocError>
         ensures { IfOk result (λ digits. digits.actor ≡ actor.now) }
     {
-        let mut kept = Bytes::new(alloc);
-        kept.push_slice(actor)?;
+        let kept = Bytes::copy_of(alloc, actor)?;
         let mut text = String::new(alloc);
         push_hexadecimal(&mut text, actor)?;
         Ok(Digits { actor: kept, text })

@@ -70,9 +70,7 @@ fn text_of(alloc: Global, word: &[u8]) -> Result<Text, AllocError>
     ensures { IfOk result (λ text. text ≡ word.now) }
 {
     let word = std::str::from_utf8(word).unwrap();
-    let mut text = Text::new(alloc);
-    text.push_str(word)?;
-    Ok(text)
+    Text::copy_of(alloc, word)
 }
 
 // The word, where it may be the name of a file.
