@@ -188,9 +188,6 @@ open_literal_at end done new kind count front last front' last' x list i n d e f
     (subst (λ a. Holds end (done ++ pending_bytes kind count front last) pending.Literal 0 [] a (list ++ Some x ∷ [])) (sym l)
     (arm_close_item end done kind count front last x list i n d h)))
 
-pub closed_bytes : (new old : List ℕ) (kind : PendingKind) (count : ℕ) (f f' l l' : List ℕ) → new ≡ old ++ pending_bytes kind count f' l' → f' ≡ f → l' ≡ l → new ≡ old ++ pending_bytes kind count f l
-closed_bytes new old kind count f f' l l' e p q = e ∙ ap (λ x. old ++ pending_bytes kind count x l') p ∙ ap (λ x. old ++ pending_bytes kind count f x) q
-
 pub split_one_at : (end : List ℕ → Option ℕ) (done : List ℕ) (kind : PendingKind) (count : ℕ) (front last : List ℕ) (list : List (Option (List ℕ))) → kind ≡ pending.Literal → count ≡ 0 → Holds end done kind count front last list → Holds end done pending.Repeat 2 front last (list ++ Some last ∷ [])
 split_one_at end done kind count front last list k z h = arm_literal_one end done count front last front list z (subst (λ k. Holds end done k count front last list) k h)
 

@@ -1,9 +1,10 @@
 -- Items that are unlike their neighbours, pushed at once: what is found in bytes, what the pending run becomes, and where a
 -- cursor stands behind them.
-use Rattle.std.proofs.Common.{◌≡◌, ℕ, suc, zero, ◌+◌, ◌-◌, ◌^◌, ◌≤◌, List, [], ◌∷◌, ◌++◌, length, take, map, ℤ, Bool, false, cond, Option, Some, None, refl, sym, ap, ◌∙◌, subst, arith, append_assoc, length-append}
+use Rattle.std.proofs.Common.{◌≡◌, ℕ, suc, zero, ◌+◌, ◌-◌, ◌^◌, ◌≤◌, List, [], ◌∷◌, ◌++◌, length, take, drop, map, ℤ, Bool, false, cond, Option, Some, None, refl, sym, ap, ◌∙◌, subst, arith, append_assoc, length-append}
 use Rattle.std.specs.Option.{IfSome, IfNone, option_map}
 use Rattle.std.specs.List.{AllByRecursion}
 use Rattle.std.proofs.lemmas.List.{append-nil, map-append, take_at, length-map}
+use Rattle.std.proofs.Math.Seq.{drop-append_seam}
 use Rattle.am_runs.specs.declared.pending.PendingKind.{PendingKind}
 use Rattle.am_runs.specs.declared.pending.PendingKind.TheVariants as pending
 use Rattle.am_runs.specs.declared.place.Kind.TheVariants as kinds
@@ -42,6 +43,20 @@ more_apart end before start count size last bytes rest x behind a i d e = record
 
 pub apart_front : (end : List ℕ → Option ℕ) (before : List ℕ) (start : List (List ℕ)) (count size : ℕ) (last bytes rest : List ℕ) → AreApart end before start count size last bytes rest → take size bytes ≡ joined start
 apart_front end before start count size last bytes rest a = ap (take size) a.bytes_are ∙ take_at (joined start) (last ++ rest) size (sym a.size_is)
+
+apart_whole : (end : List ℕ → Option ℕ) (before : List ℕ) (start : List (List ℕ)) (count size : ℕ) (last bytes rest : List ℕ) → AreApart end before start count size last bytes rest → take (size + length last) bytes ≡ joined start ++ last
+apart_whole end before start count size last bytes rest a =
+    ap (take (size + length last)) (a.bytes_are ∙ sym (append_assoc (joined start) last rest))
+    ∙ take_at (joined start ++ last) rest (size + length last) (length-append (joined start) last ∙ ap (λ n. n + length last) (sym a.size_is))
+
+-- of their bytes, those before the last, and the last
+pub whole_front : (end : List ℕ → Option ℕ) (before : List ℕ) (start : List (List ℕ)) (count size : ℕ) (last bytes rest : List ℕ) → AreApart end before start count size last bytes rest → take size (take (size + length last) bytes) ≡ take size bytes
+whole_front end before start count size last bytes rest a =
+    ap (take size) (apart_whole end before start count size last bytes rest a) ∙ take_at (joined start) last size (sym a.size_is) ∙ sym (apart_front end before start count size last bytes rest a)
+
+pub whole_last : (end : List ℕ → Option ℕ) (before : List ℕ) (start : List (List ℕ)) (count size : ℕ) (last bytes rest : List ℕ) → AreApart end before start count size last bytes rest → drop size (take (size + length last) bytes) ≡ last
+whole_last end before start count size last bytes rest a =
+    ap (drop size) (apart_whole end before start count size last bytes rest a) ∙ ap (λ n. drop n (joined start ++ last)) a.size_is ∙ drop-append_seam (joined start) last
 
 pub apart_items : (end : List ℕ → Option ℕ) (before : List ℕ) (start : List (List ℕ)) (count size : ℕ) (last bytes rest : List ℕ) → AreApart end before start count size last bytes rest → bytes ≡ joined (start ++ last ∷ []) ++ rest
 apart_items end before start count size last bytes rest a = a.bytes_are ∙ sym (append_assoc (joined start) last rest) ∙ ap (λ f. f ++ rest) (sym (joined-push start last))

@@ -7,6 +7,7 @@ mod cursor;
 mod fault;
 mod item;
 mod judge;
+mod kept;
 mod laws;
 mod leb;
 mod list;

@@ -10,6 +10,7 @@ ghost use Rattle.am_runs.specs.Pending.{pending_bytes, Holds, IsAlike};
 
 use crate::apart::{Apart, found_apart};
 use crate::item::Item;
+use crate::kept::KeptItems;
 use am_leb::{push_i, push_u};
 use am_types::same_bytes;
 use std::alloc::AllocError;
@@ -26,8 +27,7 @@ pub enum PendingKind {
 pub struct Pending {
     pub kind: PendingKind,
     pub count: u64,
-    pub front: Vec<u8>,
-    pub last: Vec<u8>,
+    pub kept: KeptItems,
 }
 
 // Appends a run's number: `count`, of a literal run -1 - `count`.
@@ -43,38 +43,31 @@ pub fn push_header(out: &mut Vec<u8>, literal: bool, count: u64) -> Result<(), A
 }
 
 // Writes the pending run.
-fn close(
-    done: &mut Vec<u8>,
-    kind: PendingKind,
-    count: u64,
-    front: &[u8],
-    last: &[u8],
-) -> Result<(), AllocError>
-    requires { count < 2 ^ 62 }
-    ensures { OnOk result (done.new.items ≡ done.old.items ++ pending_bytes kind count front.now last.now) }
+fn close(done: &mut Vec<u8>, p: &Pending) -> Result<(), AllocError>
+    requires { p.now.count < 2 ^ 62 }
+    ensures { OnOk result (done.new.items ≡ done.old.items ++ pending_bytes p.now.kind p.now.count p.now.kept.front p.now.kept.last) }
 {
-    match kind {
+    match p.kind {
         PendingKind::Nothing => Ok(()),
         PendingKind::Nulls => {
             push_header(done, false, 0)?;
-            push_u(done, count)
+            push_u(done, p.count)
         }
         PendingKind::Repeat => {
-            push_header(done, false, count)?;
-            done.extend_from_slice(last)
+            push_header(done, false, p.count)?;
+            done.extend_from_slice(p.kept.last())
         }
         PendingKind::Literal => {
-            push_header(done, true, count)?;
-            done.extend_from_slice(front)?;
-            done.extend_from_slice(last)
+            push_header(done, true, p.count)?;
+            done.extend_from_slice(p.kept.all())
         }
     }
 }
 
 fn put_null<K: Item>(done: &mut Vec<u8>, p: &mut Pending) -> Result<(), AllocError>
     requires { p.old.count < 2 ^ 62 }
-    ensures { OnOk result ((list : List (Option (List ℕ))) → Holds K.end_of done.old.items p.old.kind p.old.count p.old.front.items p.old.last.items list
-        → Holds K.end_of done.new.items p.new.kind p.new.count p.new.front.items p.new.last.items (list ++ None ∷ [])) }
+    ensures { OnOk result ((list : List (Option (List ℕ))) → Holds K.end_of done.old.items p.old.kind p.old.count p.old.kept.front p.old.kept.last list
+        → Holds K.end_of done.new.items p.new.kind p.new.count p.new.kept.front p.new.kept.last (list ++ None ∷ [])) }
 {
     match p.kind {
         PendingKind::Nulls => {
@@ -82,7 +75,7 @@ fn put_null<K: Item>(done: &mut Vec<u8>, p: &mut Pending) -> Result<(), AllocErr
             Ok(())
         }
         _ => {
-            close(done, p.kind, p.count, &p.front, &p.last)?;
+            close(done, p)?;
             p.kind = PendingKind::Nulls;
             p.count = 1;
             Ok(())
@@ -96,33 +89,19 @@ pub fn is_same(a: &[u8], b: &[u8]) -> bool
     same_bytes(a, b)
 }
 
-// Puts an item in the place of another. Mostly both have as many bytes, and those are copied.
-#[inline(always)]
-fn replace(item: &mut Vec<u8>, by: &[u8]) -> Result<(), AllocError>
-    ensures { OnOk result (item.new.items ≡ by.now) }
-{
-    if item.len() == by.len() {
-        item.as_mut_slice().copy_from_slice(by);
-        return Ok(());
-    }
-    item.clear();
-    item.extend_from_slice(by)
-}
-
 // Begins a literal run with the item.
 fn open_literal<K: Item>(done: &mut Vec<u8>, p: &mut Pending, item: &[u8]) -> Result<(), AllocError>
     requires item { IsItem K.end_of item.now }
     requires room { p.old.count < 2 ^ 62 }
     requires kind { p.old.kind ≡ PendingKind.Literal → ⊥ }
-    requires other { p.old.kind ≡ PendingKind.Repeat → p.old.last.items ≡ item.now → ⊥ }
-    ensures { OnOk result ((list : List (Option (List ℕ))) → Holds K.end_of done.old.items p.old.kind p.old.count p.old.front.items p.old.last.items list
-        → Holds K.end_of done.new.items p.new.kind p.new.count p.new.front.items p.new.last.items (list ++ Some item.now ∷ [])) }
+    requires other { p.old.kind ≡ PendingKind.Repeat → p.old.kept.last ≡ item.now → ⊥ }
+    ensures { OnOk result ((list : List (Option (List ℕ))) → Holds K.end_of done.old.items p.old.kind p.old.count p.old.kept.front p.old.kept.last list
+        → Holds K.end_of done.new.items p.new.kind p.new.count p.new.kept.front p.new.kept.last (list ++ Some item.now ∷ [])) }
 {
-    close(done, p.kind, p.count, &p.front, &p.last)?;
+    close(done, p)?;
     p.kind = PendingKind::Literal;
     p.count = 0;
-    p.front.clear();
-    replace(&mut p.last, item)?;
+    p.kept.begin(item)?;
     Ok(())
 }
 
@@ -130,8 +109,8 @@ fn open_literal<K: Item>(done: &mut Vec<u8>, p: &mut Pending, item: &[u8]) -> Re
 fn split_literal<K: Item>(done: &mut Vec<u8>, p: &mut Pending) -> Result<(), AllocError>
     requires room { p.old.count < 2 ^ 62 }
     requires kind { p.old.kind ≡ PendingKind.Literal }
-    ensures { OnOk result ((list : List (Option (List ℕ))) → Holds K.end_of done.old.items p.old.kind p.old.count p.old.front.items p.old.last.items list
-        → Holds K.end_of done.new.items p.new.kind p.new.count p.new.front.items p.new.last.items (list ++ Some p.old.last.items ∷ [])) }
+    ensures { OnOk result ((list : List (Option (List ℕ))) → Holds K.end_of done.old.items p.old.kind p.old.count p.old.kept.front p.old.kept.last list
+        → Holds K.end_of done.new.items p.new.kind p.new.count p.new.kept.front p.new.kept.last (list ++ Some p.old.kept.last ∷ [])) }
 {
     if p.count == 0 {
         p.kind = PendingKind::Repeat;
@@ -139,7 +118,7 @@ fn split_literal<K: Item>(done: &mut Vec<u8>, p: &mut Pending) -> Result<(), All
         return Ok(());
     }
     push_header(done, true, p.count - 1)?;
-    done.extend_from_slice(&p.front)?;
+    done.extend_from_slice(p.kept.front())?;
     p.kind = PendingKind::Repeat;
     p.count = 2;
     Ok(())
@@ -149,32 +128,31 @@ fn extend_literal<K: Item>(p: &mut Pending, item: &[u8], done: &Vec<u8>) -> Resu
     requires item { IsItem K.end_of item.now }
     requires room { p.old.count < 2 ^ 62 }
     requires kind { p.old.kind ≡ PendingKind.Literal }
-    requires other { p.old.last.items ≡ item.now → ⊥ }
-    ensures { OnOk result ((list : List (Option (List ℕ))) → Holds K.end_of done.now.items p.old.kind p.old.count p.old.front.items p.old.last.items list
-        → Holds K.end_of done.now.items p.new.kind p.new.count p.new.front.items p.new.last.items (list ++ Some item.now ∷ [])) }
+    requires other { p.old.kept.last ≡ item.now → ⊥ }
+    ensures { OnOk result ((list : List (Option (List ℕ))) → Holds K.end_of done.now.items p.old.kind p.old.count p.old.kept.front p.old.kept.last list
+        → Holds K.end_of done.now.items p.new.kind p.new.count p.new.kept.front p.new.kept.last (list ++ Some item.now ∷ [])) }
 {
-    p.front.extend_from_slice(&p.last)?;
+    p.kept.push(item)?;
     p.count += 1;
-    replace(&mut p.last, item)?;
     Ok(())
 }
 
 fn put_item<K: Item>(done: &mut Vec<u8>, p: &mut Pending, item: &[u8]) -> Result<(), AllocError>
     requires item { IsItem K.end_of item.now }
     requires room { p.old.count < 2 ^ 62 }
-    ensures { OnOk result ((list : List (Option (List ℕ))) → Holds K.end_of done.old.items p.old.kind p.old.count p.old.front.items p.old.last.items list
-        → Holds K.end_of done.new.items p.new.kind p.new.count p.new.front.items p.new.last.items (list ++ Some item.now ∷ [])) }
+    ensures { OnOk result ((list : List (Option (List ℕ))) → Holds K.end_of done.old.items p.old.kind p.old.count p.old.kept.front p.old.kept.last list
+        → Holds K.end_of done.new.items p.new.kind p.new.count p.new.kept.front p.new.kept.last (list ++ Some item.now ∷ [])) }
 {
     match p.kind {
         PendingKind::Literal => {
-            if is_same(&p.last, item) {
+            if is_same(p.kept.last(), item) {
                 split_literal::<K>(done, p)
             } else {
                 extend_literal::<K>(p, item, done)
             }
         }
         PendingKind::Repeat => {
-            if is_same(&p.last, item) {
+            if is_same(p.kept.last(), item) {
                 p.count += 1;
                 Ok(())
             } else {
@@ -192,8 +170,8 @@ pub fn put<K: Item>(
 ) -> Result<(), AllocError>
     requires item { IfSome (option_copied entry) (IsItem K.end_of) }
     requires room { p.old.count < 2 ^ 62 }
-    ensures { OnOk result ((list : List (Option (List ℕ))) → Holds K.end_of done.old.items p.old.kind p.old.count p.old.front.items p.old.last.items list
-        → Holds K.end_of done.new.items p.new.kind p.new.count p.new.front.items p.new.last.items (list ++ option_copied entry.entry ∷ [])) }
+    ensures { OnOk result ((list : List (Option (List ℕ))) → Holds K.end_of done.old.items p.old.kind p.old.count p.old.kept.front p.old.kept.last list
+        → Holds K.end_of done.new.items p.new.kind p.new.count p.new.kept.front p.new.kept.last (list ++ option_copied entry.entry ∷ [])) }
 {
     match entry {
         None => put_null::<K>(done, p),
@@ -203,7 +181,7 @@ pub fn put<K: Item>(
 
 /// Whether the pending run has no entries but this one, and may have more of it.
 pub fn is_alike(p: &Pending, entry: Option<&[u8]>) -> bool
-    ensures { IsTrue result → IsAlike p.now.kind p.now.last.items (option_copied entry.entry) }
+    ensures { IsTrue result → IsAlike p.now.kind p.now.kept.last (option_copied entry.entry) }
 {
     match entry {
         None => match p.kind {
@@ -211,7 +189,7 @@ pub fn is_alike(p: &Pending, entry: Option<&[u8]>) -> bool
             _ => false,
         },
         Some(item) => match p.kind {
-            PendingKind::Repeat => is_same(&p.last, item),
+            PendingKind::Repeat => is_same(p.kept.last(), item),
             _ => false,
         },
     }
@@ -220,13 +198,10 @@ pub fn is_alike(p: &Pending, entry: Option<&[u8]>) -> bool
 /// Whether the pending run has no entries but the item of this one byte, and may have more of it.
 #[inline(always)]
 pub fn is_byte(p: &Pending, byte: u8) -> bool
-    ensures { IsTrue result → IsAlike p.now.kind p.now.last.items (Some (byte ∷ [])) }
+    ensures { IsTrue result → IsAlike p.now.kind p.now.kept.last (Some (byte ∷ [])) }
 {
     match p.kind {
-        PendingKind::Repeat => match p.last.as_slice() {
-            [only] => *only == byte,
-            _ => false,
-        },
+        PendingKind::Repeat => p.kept.is_byte(byte),
         _ => false,
     }
 }
@@ -236,10 +211,10 @@ pub fn is_byte(p: &Pending, byte: u8) -> bool
 pub fn apart_from<'a, K: Item>(p: &Pending, bytes: &'a [u8], most: u64) -> Option<Apart<'a>>
     requires { 0 < most }
     ensures { IfSome result (λ r. (p.now.kind ≡ PendingKind.Literal) × (r.count ≤ most)
-        × ((start : List (List ℕ)) × AreApart K.end_of p.now.last.items start r.count r.size r.last.now bytes.now r.rest.now)) }
+        × ((start : List (List ℕ)) × AreApart K.end_of p.now.kept.last start r.count r.size r.last.now bytes.now r.rest.now)) }
 {
     match p.kind {
-        PendingKind::Literal => found_apart::<K>(&p.last, bytes, most),
+        PendingKind::Literal => found_apart::<K>(p.kept.last(), bytes, most),
         _ => None,
     }
 }
@@ -253,22 +228,21 @@ pub fn extend_apart<K: Item>(
 ) -> Result<(), AllocError>
     requires room { p.old.count + found.count < 2 ^ 62 }
     requires kind { p.old.kind ≡ PendingKind.Literal }
-    requires apart { (start : List (List ℕ)) × AreApart K.end_of p.old.last.items start found.count found.size found.last.now bytes.now found.rest.now }
-    ensures { OnOk result ((start : List (List ℕ)) (list : List (Option (List ℕ))) → AreApart K.end_of p.old.last.items start found.entry.count found.entry.size found.entry.last.now bytes.now found.entry.rest.now
-        → Holds K.end_of done.now.items p.old.kind p.old.count p.old.front.items p.old.last.items list
-        → Holds K.end_of done.now.items p.new.kind p.new.count p.new.front.items p.new.last.items (list ++ map Some (start ++ found.entry.last.now ∷ []))) }
+    requires apart { (start : List (List ℕ)) × AreApart K.end_of p.old.kept.last start found.count found.size found.last.now bytes.now found.rest.now }
+    ensures { OnOk result ((start : List (List ℕ)) (list : List (Option (List ℕ))) → AreApart K.end_of p.old.kept.last start found.entry.count found.entry.size found.entry.last.now bytes.now found.entry.rest.now
+        → Holds K.end_of done.now.items p.old.kind p.old.count p.old.kept.front p.old.kept.last list
+        → Holds K.end_of done.now.items p.new.kind p.new.count p.new.kept.front p.new.kept.last (list ++ map Some (start ++ found.entry.last.now ∷ []))) }
 {
-    p.front.extend_from_slice(&p.last)?;
-    p.front.extend_from_slice(&bytes[..found.size])?;
+    p.kept
+        .extend(&bytes[..found.size + found.last.len()], found.size)?;
     p.count += found.count;
-    replace(&mut p.last, found.last)?;
     Ok(())
 }
 
 pub fn ended<K: Item>(done: Vec<u8>, pending: Pending) -> Result<Vec<u8>, AllocError>
     requires { pending.count < 2 ^ 62 }
     ensures { IfOk result (λ bytes. (list : List (Option (List ℕ))) → length list < 2 ^ 63
-        → Holds K.end_of done.items pending.kind pending.count pending.front.items pending.last.items list → Canon K.end_of bytes.items list) }
+        → Holds K.end_of done.items pending.kind pending.count pending.kept.front pending.kept.last list → Canon K.end_of bytes.items list) }
 {
     let mut done = done;
     if let PendingKind::Nulls = pending.kind {
@@ -276,12 +250,6 @@ pub fn ended<K: Item>(done: Vec<u8>, pending: Pending) -> Result<Vec<u8>, AllocE
             return Ok(done);
         }
     }
-    close(
-        &mut done,
-        pending.kind,
-        pending.count,
-        &pending.front,
-        &pending.last,
-    )?;
+    close(&mut done, &pending)?;
     Ok(done)
 }

@@ -2,7 +2,6 @@ use Rattle.std.proofs.Common.{◌≡◌, [], length, arith, ap}
 use Rattle.std.proofs.lemmas.List.{nil_from_length}
 use Rattle.std.proofs.lemmas.Grind.{common_steps}
 use Rattle.am_runs.specs.declared.pending.PendingKind.TheVariants as pending
-use Rattle.am_runs.proofs.Arms.{closed_bytes}
 use Rattle.am_runs.proofs.Finishing.{finished, finished_bare}
 use Rattle.am_runs.proofs.pending.ended.Goals as goal
 use Rattle.am_runs.proofs.pending.ended.Goals.{in-Nulls+else-is_empty, in_default}
@@ -16,4 +15,4 @@ returns g c =
       | in-Nulls+else-is_empty w ↦ λ k e. (let n = ap length e in grind (arith, common_steps))
       | in_default w ↦ λ k e. w.in_default.not-Nulls k
     ] in
-    λ list l h. finished _ _ _ _ _ _ _ list not_bare l (closed_bytes _ _ _ _ _ _ _ _ c.in_ok-close.ensures c.deref.ensures.value c.deref-2.ensures.value) h
+    λ list l h. finished _ _ _ _ _ _ _ list not_bare l c.in_ok-close.ensures h
