@@ -1,16 +1,18 @@
 -- Values with one number, cut out of the raw bytes one after another.
-use Rattle.std.proofs.Common.{◌≡◌, ℕ, suc, zero, ◌+◌, ◌*◌, ◌/◌, ◌%◌, ◌-◌, ◌<◌, ◌≤◌, ◌^◌, ◌↔◌, ◌⊎◌, List, [], ◌∷◌, ◌++◌, length, map, take, drop, All, Option, Some, None, IsSome, Bool, false, true, inl, inr, refl, sym, ap, ◌∙◌, subst, arith}
+use Rattle.std.proofs.Common.{◌≡◌, ℕ, suc, zero, ◌+◌, ◌*◌, ◌/◌, ◌%◌, ◌-◌, ◌<◌, ◌≤◌, ◌^◌, ◌↔◌, ◌⊎◌, List, [], ◌∷◌, ◌++◌, length, map, take, drop, Option, Some, None, IsSome, inl, inr, refl, sym, ap, ◌∙◌, subst, arith}
 use Rattle.std.specs.Prelude.{replicate, IfSome, IfNone}
 use Rattle.std.specs.Option.{option_map}
 use Rattle.std.specs.Str.{IsAscii}
-use Rattle.std.proofs.lemmas.List.{take_at, take-append-drop, drop-drop, drop-take, length-drop, length-take-le}
+use Rattle.std.proofs.lemmas.List.{drop-drop, drop-take, length-drop, length-take-le}
 use Rattle.std.proofs.lemmas.List.Elements.{All-take, All-drop}
 use Rattle.std.proofs.lemmas.Str.{IsAscii-take, IsAscii-drop, IsUtf8-from_ascii}
 use Rattle.am_types.specs.declared.RawValue.{RawValue}
 use Rattle.am_types.specs.Bytes.{IsBytes}
 use Rattle.am_types.specs.Values.{Good}
-use Rattle.am_values.specs.Columns.{metadata}
-use Rattle.am_values.specs.Cutting.{value_from, values_from, width, AreCut, AreAlikeCut, IsCut, NoneNull}
+use Rattle.am_values.specs.declared.nulls.Nulls.{Nulls}
+use Rattle.am_values.specs.declared.nulls.Nulls.TheVariants.{AreRefused}
+use Rattle.am_values.specs.Columns.{metadata, NoneNull}
+use Rattle.am_values.specs.Cutting.{value_from, values_from, width, AreCut, AreAlikeCut, IsCut}
 use Rattle.am_values.proofs.Cuts.{cut_one, first_cut}
 
 -- ---- answers
@@ -29,18 +31,34 @@ none_from (Some a) P p = tt
 
 -- ---- one more
 
+pub alike_zero : (x : Option ℕ) (raw : List ℕ) → AreAlikeCut zero x raw
+alike_zero x raw = (omega arith, tt)
+
+-- so many and one more, of which the first stands in front
+alike_more : (n : ℕ) (x : Option ℕ) (raw : List ℕ) → (IsCut x raw × AreAlikeCut n x (drop (width x) raw)) ↔ AreAlikeCut (suc n) x raw
+alike_more n None raw = (
+  λ w. (omega arith, (tt, w.1.1)),
+  λ w. (tt, (omega arith, w.1.1)),
+)
+alike_more n (Some m) raw =
+    let w = m / 16 in
+    let size : w + n * w ≡ suc n * w = omega arith in (
+      λ a. (omega (arith, size, a.0.0, a.1.0, length-drop w raw), (a.0.1, a.1.1)),
+      λ a. ((omega (arith, size, a.0), a.1.0), (omega (arith, size, a.0, length-drop w raw), a.1.1)),
+    )
+
 pub alike_step : (n : ℕ) (x : Option ℕ) (raw rest : List ℕ) → 0 < n → IsCut x raw → rest ≡ drop (width x) raw → AreAlikeCut (n - 1) x rest ↔ AreAlikeCut n x raw
 alike_step zero x raw rest some c e = absurd (omega arith)
 alike_step (suc n) x raw rest some c e =
     let less : suc n - 1 ≡ n = omega arith in
     subst (λ m. AreAlikeCut m x rest ↔ AreAlikeCut (suc n) x raw) (sym less) (
-      (λ a. (c, subst (AreAlikeCut n x) e a)),
-      (λ a. subst (AreAlikeCut n x) (sym e) a.1),
+      (λ a. (alike_more n x raw).0 (c, subst (AreAlikeCut n x) e a)),
+      (λ a. subst (AreAlikeCut n x) (sym e) ((alike_more n x raw).1 a).1),
     )
 
 pub alike_first : (n : ℕ) (x : Option ℕ) (raw : List ℕ) → 0 < n → AreAlikeCut n x raw → IsCut x raw
 alike_first zero x raw some a = absurd (omega arith)
-alike_first (suc n) x raw some a = a.0
+alike_first (suc n) x raw some a = ((alike_more n x raw).1 a).0
 
 -- what is behind one more
 pub behind_more : (all left w : ℕ) (raw rest next : List ℕ) → 0 < left → left ≤ all → rest ≡ drop ((all - left) * w) raw → next ≡ drop w rest → next ≡ drop ((all - (left - 1)) * w) raw
@@ -52,12 +70,12 @@ behind_more all left w raw rest next some few e n =
 -- ---- those without bytes
 
 pub alike_none : (n : ℕ) (raw : List ℕ) → AreAlikeCut n None raw
-alike_none zero raw = tt
-alike_none (suc n) raw = (tt, alike_none n raw)
+alike_none zero raw = alike_zero None raw
+alike_none (suc n) raw = (alike_more n None raw).0 (tt, alike_none n raw)
 
 pub alike_empty : (n : ℕ) (x : Option ℕ) (raw : List ℕ) → width x ≡ 0 → IsCut x raw → AreAlikeCut n x raw
-alike_empty zero x raw z c = tt
-alike_empty (suc n) x raw z c = (c, subst (AreAlikeCut n x) (sym (ap (λ m. drop m raw) z)) (alike_empty n x raw z c))
+alike_empty zero x raw z c = alike_zero x raw
+alike_empty (suc n) x raw z c = (alike_more n x raw).0 (c, subst (AreAlikeCut n x) (sym (ap (λ m. drop m raw) z)) (alike_empty n x raw z c))
 
 pub none_behind : (n w : ℕ) (raw : List ℕ) → w ≡ 0 → drop w raw ≡ drop (n * w) raw
 none_behind n w raw z =
@@ -90,14 +108,15 @@ take-front (suc n) zero (b ∷ raw) f h = absurd (omega (arith, h))
 take-front (suc n) (suc m) (b ∷ raw) f h = ap (λ l. b ∷ l) (take-front n m raw (omega (arith, f)) (omega (arith, h)))
 
 pub alike_ascii : (n x : ℕ) (raw : List ℕ) → x % 16 ≡ 6 → x < 2 ^ 64 → n * (x / 16) ≤ length raw → IsBytes raw → IsAscii (take (n * (x / 16)) raw) → AreAlikeCut n (Some x) raw
-alike_ascii zero x raw k small fits bytes ascii = tt
+alike_ascii zero x raw k small fits bytes ascii = alike_zero (Some x) raw
 alike_ascii (suc n) x raw k small fits bytes ascii =
     let w = x / 16 in
     let size : w + n * w ≡ suc n * w = omega arith in
     let here : w ≤ length raw = omega (arith, fits, size) in
     let front : IsAscii (take w raw) = subst IsAscii (take-front w (suc n * w) raw here (omega (arith, size))) (IsAscii-take (take (suc n * w) raw) w ascii) in
     let back : IsAscii (take (n * w) (drop w raw)) = subst IsAscii (ap (λ m. drop w (take m raw)) (sym size) ∙ drop-take w (n * w) raw) (IsAscii-drop (take (suc n * w) raw) w ascii) in
-    ((here, text_good x raw k small here bytes front), alike_ascii n x (drop w raw) k small (omega (arith, fits, size, length-drop w raw)) (All-drop (λ b. b < 2 ^ 8) w raw bytes) back)
+    let more = alike_ascii n x (drop w raw) k small (omega (arith, fits, size, length-drop w raw)) (All-drop (λ b. b < 2 ^ 8) w raw bytes) back in
+    (alike_more n (Some x) raw).0 ((here, text_good x raw k small here bytes front), more)
 
 -- ---- numbers alike at the front
 
@@ -107,15 +126,16 @@ cut_alike zero x list raw rest a e =
     ((λ c. subst (AreCut list) same c), (λ c. subst (AreCut list) (sym same) c))
 cut_alike (suc n) x list raw rest a e =
     let size : width x + n * width x ≡ suc n * width x = omega arith in
-    let more = cut_alike n x list (drop (width x) raw) rest a.1 (e ∙ ap (λ m. drop m raw) (sym size) ∙ sym (drop-drop (n * width x) (width x) raw)) in
-    let one = cut_one x (replicate n x ++ list) raw (drop (width x) raw) a.0 refl in
+    let parts = (alike_more n x raw).1 a in
+    let more = cut_alike n x list (drop (width x) raw) rest parts.1 (e ∙ ap (λ m. drop m raw) (sym size) ∙ sym (drop-drop (n * width x) (width x) raw)) in
+    let one = cut_one x (replicate n x ++ list) raw (drop (width x) raw) parts.0 refl in
     ((λ c. one.0 (more.0 c)), (λ c. more.1 (one.1 c)))
 
 pub uncut_alike : (n : ℕ) (x : Option ℕ) (list : List (Option ℕ)) (raw : List ℕ) → AreCut (replicate n x ++ list) raw → AreAlikeCut n x raw
-uncut_alike zero x list raw c = tt
+uncut_alike zero x list raw c = alike_zero x raw
 uncut_alike (suc n) x list raw c =
     let here = first_cut x (replicate n x ++ list) raw c in
-    (here, uncut_alike n x list (drop (width x) raw) ((cut_one x (replicate n x ++ list) raw (drop (width x) raw) here refl).1 c))
+    (alike_more n x raw).0 (here, uncut_alike n x list (drop (width x) raw) ((cut_one x (replicate n x ++ list) raw (drop (width x) raw) here refl).1 c))
 
 pub null_alike : (n : ℕ) (x : Option ℕ) (list : List (Option ℕ)) → IsSome x → NoneNull list ↔ NoneNull (replicate n x ++ list)
 null_alike zero x list s = ((λ a. a), (λ a. a))
@@ -125,9 +145,9 @@ pub no_null : (n : ℕ) (x : Option ℕ) (list : List (Option ℕ)) → 0 < n �
 no_null zero x list some a = absurd (omega arith)
 no_null (suc n) x list some a = a.0
 
--- the values are cut, and none is null where no null may be
-pub both_kept : (nulls : Bool) (n : ℕ) (x : Option ℕ) (list all : List (Option ℕ)) (raw rest : List ℕ) → all ≡ replicate n x ++ list → (nulls ≡ false → IsSome x) → AreAlikeCut n x raw → rest ≡ drop (n * width x) raw
-    → (AreCut list rest × (nulls ≡ false → NoneNull list)) ↔ (AreCut all raw × (nulls ≡ false → NoneNull all))
+-- the values are cut, and if nulls are refused none is null
+pub both_kept : (nulls : Nulls) (n : ℕ) (x : Option ℕ) (list all : List (Option ℕ)) (raw rest : List ℕ) → all ≡ replicate n x ++ list → (nulls ≡ AreRefused → IsSome x) → AreAlikeCut n x raw → rest ≡ drop (n * width x) raw
+    → (AreCut list rest × (nulls ≡ AreRefused → NoneNull list)) ↔ (AreCut all raw × (nulls ≡ AreRefused → NoneNull all))
 both_kept nulls n x list all raw rest e s a r =
     let cut = cut_alike n x list raw rest a r in (
       λ w. (subst (λ l. AreCut l raw) (sym e) (cut.0 w.0), λ f. subst NoneNull (sym e) ((null_alike n x list (s f)).0 (w.1 f))),

@@ -1,11 +1,10 @@
 -- Letters cut out of the raw bytes, as many at once as there are numbers of letters.
-use Rattle.std.proofs.Common.{◌≡◌, ℕ, suc, zero, ◌+◌, ◌<◌, ◌≤◌, List, [], ◌∷◌, ◌++◌, length, length-append, take, drop, map, Option, Some, refl, sym, ap, ◌∙◌, subst, arith, inl, inr, get_or}
+use Rattle.std.proofs.Common.{◌≡◌, ℕ, suc, zero, ◌+◌, ◌<◌, ◌≤◌, List, [], ◌∷◌, ◌++◌, length, length-append, take, drop, map, Option, Some, refl, sym, ap, ◌∙◌, subst, arith, inl, inr}
 use Rattle.std.specs.Prelude.{replicate, IsUtf8}
 use Rattle.std.proofs.lemmas.Bool.{cases_lt}
 use Rattle.std.proofs.lemmas.Bool.Decides.{nat_tests}
-use Rattle.std.proofs.lemmas.Str.{length-encode, len_utf8_bounds, byte_from_char}
+use Rattle.std.proofs.lemmas.Str.{length-encode, byte_from_char}
 use Rattle.std.specs.Char.{len_utf8}
-use Rattle.am_types.specs.declared.RawValue.{RawValue}
 use Rattle.am_values.specs.Cutting.{values_from, AreCut}
 use Rattle.am_values.specs.Letters.{letter, AreAscii}
 use Rattle.am_values.proofs.Cuts.{cut_one, first_cut}

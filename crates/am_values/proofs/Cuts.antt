@@ -1,5 +1,5 @@
 -- Values cut out of raw bytes by their numbers: one at a time, many at once, and what is spelled is cut out again.
-use Rattle.std.proofs.Common.{◌≡◌, ℕ, suc, zero, ◌+◌, ◌*◌, ◌/◌, ◌%◌, ◌-◌, ◌≤◌, List, [], ◌∷◌, ◌++◌, length, take, drop, map, Option, Some, None, inr, ◌⊎◌, ⊎_elim, ◌↔◌, refl, sym, ap, ◌∙◌, subst, arith, length-append}
+use Rattle.std.proofs.Common.{◌≡◌, ℕ, suc, zero, ◌+◌, ◌*◌, ◌/◌, ◌%◌, ◌-◌, ◌≤◌, List, [], ◌∷◌, ◌++◌, length, take, drop, map, Option, Some, None, ◌↔◌, refl, sym, ap, ◌∙◌, subst, arith, length-append}
 use Rattle.std.specs.Prelude.{replicate}
 use Rattle.std.specs.Option.{option_map}
 use Rattle.std.specs.List.{flat_map}
@@ -83,8 +83,6 @@ cut_spelled (Some v ∷ values) h =
     let s = split v h.0.kind in
     let c : IsCut (Some (metadata v)) (v.raw ++ more) = (omega (arith, s.1, length-append v.raw more), subst Good (sym (value_back v more h.0.kind)) h.0) in
     (cut_one (Some (metadata v)) (map (option_map metadata) values) (v.raw ++ more) more c (sym (drop_at v.raw more (metadata v / 16) (sym s.1)))).0 (cut_spelled values h.1)
-
--- ---- for `next`
 
 -- ---- for `skip`
 

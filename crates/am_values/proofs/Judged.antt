@@ -2,11 +2,10 @@
 --     numbers_are         canonical numbers that are read are canonical for what is read
 --     canonical_of_joined     columns that spell values are canonical where the numbers are
 --     canonical_from, canonical_to     the three tests together tell canonical columns
-use Rattle.std.proofs.Common.{◌≡◌, ℕ, zero, suc, ◌≤◌, ◌/◌, List, [], ◌∷◌, ◌++◌, length, take, drop, map, Option, Some, None, refl, sym, ap, ◌∙◌, subst, arith, inl, inr, ⊎_elim, ◌↔◌}
-use Rattle.std.specs.Prelude.{replicate, IsSome}
+use Rattle.std.proofs.Common.{◌≡◌, ℕ, suc, ◌≤◌, ◌/◌, List, [], ◌∷◌, length, drop, map, Option, Some, None, refl, sym, ap, ◌∙◌, subst, arith, inl, inr, ⊎_elim}
 use Rattle.std.specs.Option.{option_map}
 use Rattle.std.specs.List.{flat_map}
-use Rattle.std.proofs.lemmas.List.{length-map, take-append-drop}
+use Rattle.std.proofs.lemmas.List.{length-map}
 use Rattle.am_leb.specs.Leb.{uleb}
 use Rattle.am_types.specs.declared.RawValue.{RawValue}
 use Rattle.am_runs.specs.Items.{unsigned_end}
@@ -16,8 +15,8 @@ use Rattle.am_runs.specs.Typed.{JoinsUnsigned}
 use Rattle.am_runs.specs.Canonical.{Canon, AreNulls}
 use Rattle.am_runs.proofs.Unique as unique
 use Rattle.am_runs.proofs.Spelled.{one_unsigned}
-use Rattle.am_values.specs.Columns.{metadata, AreGood, JoinsValues, AllGood, spellings, CanonValues}
-use Rattle.am_values.specs.Cutting.{value_from, values_from, AreCut, NoneNull}
+use Rattle.am_values.specs.Columns.{metadata, AreGood, JoinsValues, AllGood, NoneNull, spellings, CanonValues}
+use Rattle.am_values.specs.Cutting.{value_from, values_from, AreCut}
 use Rattle.am_values.proofs.Cuts.{joins_values, cut_spelled, length-values}
 use Rattle.am_values.proofs.Spelling.{spellings-map, joined-map, canonical_is_joined}
 

@@ -4,10 +4,11 @@
 --     HasNumber kind                   values of the kind have a number
 --     metadata value                   the number that tells the kind and the length of a value
 --     given values                     the values, of which a null reads as the null value
+--     NoneNull items                   no item is null
 --     JoinsValues numbers raw values   the two columns spell the values, in any way of runs
 --     CanonValues numbers raw values   the two columns are the canonical ones of the values
 --     canonical_numbers values, joined values     those columns
-use Rattle.std.specs.Prelude.{◌≡◌, ℕ, ◌+◌, ◌*◌, ◌⊎◌, List, [], length, map, Option, Some, None, IfSome, unwrap_or}
+use Rattle.std.specs.Prelude.{◌≡◌, ℕ, ◌+◌, ◌*◌, ◌⊎◌, List, [], length, map, Option, Some, None, IsSome, IfSome, unwrap_or}
 use Rattle.std.specs.Option.{option_map}
 use Rattle.std.specs.List.{flat_map, AllByRecursion}
 use Rattle.am_leb.specs.Leb.{uleb}
@@ -32,6 +33,10 @@ null_value = record { kind = 0; raw = [] }
 -- the values, of which a null reads as the null value
 abbrev pub given : List (Option RawValue) → List RawValue
 given values = map (λ value. unwrap_or value null_value) values
+
+-- no item is null
+abbrev pub NoneNull : {A : Type 0} → List (Option A) → Type 0
+NoneNull items = AllByRecursion (λ item. IsSome item) items
 
 -- a null has no bytes
 abbrev pub raw_of : Option RawValue → List ℕ

@@ -1,15 +1,16 @@
 //! A cursor over the values of two columns.
-ghost use Rattle.std.specs.Prelude.{◌≡◌, ◌<◌, ◌≤◌, ◌+◌, ◌^◌, ◌++◌, ◌∷◌, [], List, Option, Some, false, length, map, take, drop, IfOk, IfSome, IfNone, OnOk, OnErr};
+ghost use Rattle.std.specs.Prelude.{◌≡◌, ◌<◌, ◌≤◌, ◌+◌, ◌^◌, ◌++◌, ◌∷◌, [], List, Option, Some, length, map, take, drop, IfOk, IfSome, IfNone, OnOk, OnErr};
 ghost use Rattle.std.specs.Option.{option_map};
 ghost use Rattle.am_types.specs.declared.RawValue.{RawValue};
 ghost use Rattle.am_types.specs.Views.{value_of};
-ghost use Rattle.am_values.specs.Columns.{JoinsValues, AllGood, given, joined, spellings};
-ghost use Rattle.am_values.specs.Cutting.{NoneNull};
+ghost use Rattle.am_values.specs.declared.nulls.Nulls.TheVariants.{AreRefused};
+ghost use Rattle.am_values.specs.Columns.{JoinsValues, AllGood, NoneNull, given, joined, spellings};
 ghost use Rattle.am_values.specs.Letters.{letter, AreAscii};
 
 use crate::cutting::{are_cut, cut, skipped};
 use crate::fault::BadValue;
 use crate::letters::letters_ahead;
+use crate::nulls::Nulls;
 use crate::taking::taken;
 use am_runs::{RunWriter, UnsignedCursor, UnsignedItem};
 use am_types::ValueRef;
@@ -44,7 +45,7 @@ impl<'a> ValueCursor<'a> {
         ensures ok { IfOk result (λ values. JoinsValues meta.now raw.now values × (length values ≤ most)) }
         ensures err { OnErr result ((values : List (Option RawValue)) → JoinsValues meta.now raw.now values → most < length values) }
     {
-        ValueCursor::opened(meta, raw, most, true)
+        ValueCursor::opened(meta, raw, most, Nulls::MayBe)
     }
 
     /// The same where no value may be null.
@@ -52,13 +53,13 @@ impl<'a> ValueCursor<'a> {
         ensures ok { IfOk result (λ values. JoinsValues meta.now raw.now values × NoneNull values × (length values ≤ most)) }
         ensures err { OnErr result ((values : List (Option RawValue)) → JoinsValues meta.now raw.now values → NoneNull values → most < length values) }
     {
-        ValueCursor::opened(meta, raw, most, false)
+        ValueCursor::opened(meta, raw, most, Nulls::AreRefused)
     }
 
-    // The same, where nulls may be or not.
-    fn opened(meta: &'a [u8], raw: &'a [u8], most: u64, nulls: bool) -> Result<Self, BadValue>
-        ensures ok { IfOk result (λ values. JoinsValues meta.now raw.now values × (nulls ≡ false → NoneNull values) × (length values ≤ most)) }
-        ensures err { OnErr result ((values : List (Option RawValue)) → JoinsValues meta.now raw.now values → (nulls ≡ false → NoneNull values) → most < length values) }
+    // The same, where nulls may be or are refused.
+    fn opened(meta: &'a [u8], raw: &'a [u8], most: u64, nulls: Nulls) -> Result<Self, BadValue>
+        ensures ok { IfOk result (λ values. JoinsValues meta.now raw.now values × (nulls ≡ AreRefused → NoneNull values) × (length values ≤ most)) }
+        ensures err { OnErr result ((values : List (Option RawValue)) → JoinsValues meta.now raw.now values → (nulls ≡ AreRefused → NoneNull values) → most < length values) }
     {
         match UnsignedCursor::over(meta, most) {
             Err(_) => Err(BadValue),

@@ -1,8 +1,11 @@
 //! Cutting values out of the raw bytes by their numbers.
-ghost use Rattle.std.specs.Prelude.{◌≡◌, ◌≤◌, ◌*◌, ◌%◌, ◌↔◌, Some, false, length, take, drop, IfSome, IfNone, IsSome, IsTrue};
-ghost use Rattle.am_values.specs.Cutting.{AreCut, AreAlikeCut, IsCut, NoneNull, width, values_from};
+ghost use Rattle.std.specs.Prelude.{◌≡◌, ◌≤◌, ◌*◌, ◌%◌, ◌↔◌, Some, length, take, drop, IfSome, IfNone, IsTrue};
+ghost use Rattle.am_values.specs.declared.nulls.Nulls.TheVariants.{AreRefused};
+ghost use Rattle.am_values.specs.Columns.{NoneNull};
+ghost use Rattle.am_values.specs.Cutting.{AreCut, AreAlikeCut, IsCut, width, values_from};
 
 use crate::good::is_good;
+use crate::nulls::Nulls;
 use am_runs::UnsignedCursor;
 use am_types::{kinds, slice_known};
 
@@ -100,21 +103,14 @@ fn behind_alike<'a>(number: Option<u64>, count: u64, raw: &'a [u8]) -> Option<&'
     }
 }
 
-// Whether the number isn't null, or nulls may be.
-fn may_stand(number: Option<u64>, nulls: bool) -> bool
-    ensures { IsTrue result ↔ (nulls ≡ false → IsSome number) }
-{
-    if nulls { true } else { number.is_some() }
-}
-
-// Whether the raw bytes are just those of the values, each value is good, and none is null where no null may be. It takes
-// no more steps than there are bytes in both columns.
-pub fn are_cut(mut numbers: UnsignedCursor<'_>, raw: &[u8], nulls: bool) -> bool
-    ensures { IsTrue result ↔ AreCut numbers.entry raw.now × (nulls ≡ false → NoneNull numbers.entry) }
+// Whether the raw bytes are just those of the values, each value is good, and if nulls are refused none is null. That takes
+// time in the bytes of both columns. Texts alike that aren't all ASCII are looked at twice.
+pub fn are_cut(mut numbers: UnsignedCursor<'_>, raw: &[u8], nulls: Nulls) -> bool
+    ensures { IsTrue result ↔ AreCut numbers.entry raw.now × (nulls ≡ AreRefused → NoneNull numbers.entry) }
 {
     let mut rest = raw;
     while let Some((number, count)) = numbers.next_alike_within(u64::MAX) {
-        if !may_stand(number, nulls) {
+        if !nulls.allow(number) {
             return false;
         }
         match behind_alike(number, count, rest) {
