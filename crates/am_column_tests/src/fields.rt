@@ -5,7 +5,7 @@ use am_colmeta::ActorList;
 use am_fields::{
     ActionColumn, Actors, CountedObjects, DeltaColumn, FlagColumn, GREATEST_COUNTER, GroupColumns,
     IdColumns, IdCursor, KeyColumns, NumberColumn, NumberWriter, ObjectColumns, TextColumn,
-    TextWriter, ValueColumns, is_given,
+    TextWriter, ValueColumns,
 };
 use am_flags::FlagWriter;
 use am_types::{KeyRef, ObjRef};
@@ -257,9 +257,6 @@ fn reads_groups_of_none(rt: HostRuntime) {
     let actors = actors_of(&rt, &[0x01, 0x01, 0xbb]);
     assert!(rt; GroupColumns::over(&[0x00, 0x01], &[], &[], &actors, 1).is_ok());
     assert!(rt; GroupColumns::over(&[], &[], &[], &actors, 1).is_ok());
-    assert!(rt;
-        is_given(&[0x7e, 0x00, 0x02], 2) && !is_given(&[0x00, 0x01], 1) && !is_given(&[], 1)
-    );
     assert!(rt; IdCursor::none().next().is_none());
 }
 

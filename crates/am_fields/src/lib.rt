@@ -61,7 +61,7 @@ pub use lent::text_in;
 pub use listed::{ListedActors, OwnedActors};
 pub use messages::MessageColumn;
 pub use number_writer::NumberWriter;
-pub use numbers::{NumberColumn, is_given};
+pub use numbers::NumberColumn;
 pub use objects::ObjectColumns;
 pub use text_writer::TextWriter;
 pub use texts::TextColumn;
