@@ -5,17 +5,18 @@ use Rattle.std.proofs.lemmas.List.{take-append-drop, drop-drop, length-drop, len
 use Rattle.std.proofs.Math.Seq.{take-add}
 use Rattle.am_runs.proofs.Parts.{part_is}
 use Rattle.am_runs.proofs.Spelled.{map_take, map_drop}
-use Rattle.am_fields.specs.Groups.{AreGiven, AreActions, givens, counts, parts, total}
+use Rattle.am_values.specs.Columns.{NoneNull}
+use Rattle.am_fields.specs.Groups.{AreActions, givens, counts, parts, total}
 use Rattle.am_fields.specs.Layout.{flat}
 use Rattle.am_fields.proofs.GroupLaws.{some-givens, lengths-parts, length-parts, length-counts}
 use Rattle.am_fields.proofs.Moves.{moved_part, moved_behind}
 
 -- ---- items that all stand
 
-pub first_givens : {A : Type 0} (n : ℕ) (xs : List (Option A)) → AreGiven xs → take n xs ≡ map Some (take n (givens xs))
+pub first_givens : {A : Type 0} (n : ℕ) (xs : List (Option A)) → NoneNull xs → take n xs ≡ map Some (take n (givens xs))
 first_givens n xs given = ap (take n) (sym (some-givens xs given)) ∙ sym (map_take Some n (givens xs))
 
-pub givens_behind : {A : Type 0} (n : ℕ) (xs : List (Option A)) → AreGiven xs → givens (drop n xs) ≡ drop n (givens xs)
+pub givens_behind : {A : Type 0} (n : ℕ) (xs : List (Option A)) → NoneNull xs → givens (drop n xs) ≡ drop n (givens xs)
 givens_behind zero xs given = refl
 givens_behind (suc n) [] given = refl
 givens_behind (suc n) (None ∷ xs) given = absurd (let e = given.0 in cc)

@@ -1,13 +1,15 @@
 -- Items alike, none of which may be null; actions alike; and values whose numbers all stand.
-use Rattle.std.proofs.Common.{◌≡◌, ◌≢◌, ℕ, zero, suc, ◌<◌, ◌↔◌, List, [], ◌∷◌, ◌++◌, length, map, replicate, Bool, false, Option, Some, None, inr, refl, arith, sym, ap, ◌∙◌, subst}
+use Rattle.std.proofs.Common.{◌≡◌, ◌≢◌, ℕ, zero, suc, ◌<◌, ◌↔◌, List, [], ◌∷◌, ◌++◌, length, map, replicate, Option, Some, None, inr, refl, arith, sym, ap, ◌∙◌, subst}
 use Rattle.std.specs.Prelude.{IsSome, IfNone}
 use Rattle.std.specs.Option.{option_map}
 use Rattle.std.proofs.lemmas.List.{length-map}
 use Rattle.am_types.specs.declared.RawValue.{RawValue}
 use Rattle.am_runs.specs.Typed.{JoinsUnsigned}
-use Rattle.am_values.specs.Columns.{metadata, JoinsValues}
-use Rattle.am_values.specs.Cutting.{NoneNull}
-use Rattle.am_fields.specs.Groups.{AreGiven, AreActions, IsAction}
+use Rattle.am_values.specs.declared.Nulls.{Nulls}
+use Rattle.am_values.specs.declared.Nulls.TheVariants.{AreRefused}
+use Rattle.am_values.specs.Columns.{metadata, NoneNull, JoinsValues}
+use Rattle.am_values.proofs.Alike.{null_alike, none_null-numbers}
+use Rattle.am_fields.specs.Groups.{AreActions, IsAction}
 use Rattle.am_fields.specs.Spelling.{SpellsGiven, SpellsValues}
 use Rattle.am_fields.proofs.GroupLaws.{given-told, joins-given, values_joined, values-same_length}
 use Rattle.am_fields.proofs.OneColumn.{numbers_one}
@@ -18,14 +20,10 @@ IfNone-from (Some x) P p = tt
 
 -- ---- numbers alike
 
-all_given : (n : ℕ) (x : Option ℕ) (list : List (Option ℕ)) → IsSome x → AreGiven list ↔ AreGiven (replicate n x ++ list)
-all_given zero x list s = ((λ a. a), (λ a. a))
-all_given (suc n) x list s = let more = all_given n x list s in ((λ a. (s, more.0 a)), (λ a. more.1 a.1))
-
-pub given_kept : (nulls : Bool) (n : ℕ) (x : Option ℕ) (list all : List (Option ℕ)) → all ≡ replicate n x ++ list → (nulls ≡ false → IsSome x) → (nulls ≡ false → AreGiven list) ↔ (nulls ≡ false → AreGiven all)
+pub given_kept : (nulls : Nulls) (n : ℕ) (x : Option ℕ) (list all : List (Option ℕ)) → all ≡ replicate n x ++ list → (nulls ≡ AreRefused → IsSome x) → (nulls ≡ AreRefused → NoneNull list) ↔ (nulls ≡ AreRefused → NoneNull all)
 given_kept nulls n x list all e s = (
-  λ g f. subst AreGiven (sym e) ((all_given n x list (s f)).0 (g f)),
-  λ g f. (all_given n x list (s f)).1 (subst AreGiven e (g f)),
+  λ g f. subst NoneNull (sym e) ((null_alike n x list (s f)).0 (g f)),
+  λ g f. (null_alike n x list (s f)).1 (subst NoneNull e (g f)),
 )
 
 -- ---- actions alike
@@ -65,11 +63,6 @@ values_not_so_many numbers raw n xs joins other vs spelled given =
     let found = values_standing numbers raw n vs spelled given in
     other (values-same_length numbers raw xs found.0 joins found.1 ∙ found.3)
 
-given_numbers : (ys : List (Option RawValue)) → NoneNull ys → AreGiven (map (option_map metadata) ys)
-given_numbers [] h = tt
-given_numbers (None ∷ ys) h = absurd (let no = h.0 in cc)
-given_numbers (Some y ∷ ys) h = (refl, given_numbers ys h.1)
-
 pub numbers_stand : (numbers raw : List ℕ) (n : ℕ) (xs : List (Option RawValue)) → JoinsValues numbers raw xs → NoneNull xs → length xs ≡ n → SpellsGiven n numbers
 numbers_stand numbers raw n xs joins none e =
-    given-told n numbers (map (option_map metadata) xs) (inr joins.numbers_are) (length-map xs (option_map metadata) ∙ e) (given_numbers xs none)
+    given-told n numbers (map (option_map metadata) xs) (inr joins.numbers_are) (length-map xs (option_map metadata) ∙ e) (none_null-numbers xs none)

@@ -18,6 +18,6 @@ loop-rest-preserved c =
     let same = ap (λ v. count * v) c.unwrap_or.ensures in
     let part = total_part c.loop-rest.rest c.next_alike_within-item.new.self item count c.next_alike_within-item.ensures.next in
     let sum = c.in_ok-sum.ensures.some in
-    let kept = given_kept c.args.nulls count item c.next_alike_within-item.new.self c.loop-rest.rest c.next_alike_within-item.ensures.next (c.if-not-may_stand.ensures.0 refl) in
+    let kept = given_kept c.args.nulls count item c.next_alike_within-item.new.self c.loop-rest.rest c.next_alike_within-item.ensures.next (c.if-not-allow.ensures.0 refl) in
     let inv = c.loop-rest.invariant in
     (omega (arith, same, inv.0, part, sum.0), sum.1, ((λ g. inv.2.0 (kept.0 g)), (λ g. kept.1 (inv.2.1 g))))
