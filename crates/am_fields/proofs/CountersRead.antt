@@ -7,8 +7,7 @@ use Rattle.std.proofs.lemmas.Bool.Decides.{nat_tests}
 use Rattle.std.proofs.lemmas.Int.{ints}
 use Rattle.am_types.specs.declared.Key.TheVariants.{Elem}
 use Rattle.am_delta.specs.Deltas.{AllBetween, sums_from, stretch}
-use Rattle.am_fields.specs.Fields.{is_within, id_with, id_from, id_at, key_at}
-use Rattle.am_fields.specs.Limits.{counters_beside}
+use Rattle.am_fields.specs.Fields.{is_within, id_with, id_from, id_at, key_at, counters_beside}
 use Rattle.am_fields.proofs.Judging.{all_copies}
 
 -- what differs at no value holds of the same sums

@@ -15,7 +15,7 @@ use std::marker::Model;
 /// like the first are to come.
 #[derive(Drop)]
 pub struct CountedObjects<'a> {
-    // what comes next, so many times, before the others; where it comes no more, what came last
+    // what comes next, so many times, before the others; where it comes no more, what came last, and at first the root
     object: ObjRef<'a>,
     alike: u64,
     behind: ObjectColumns<'a>,
@@ -42,7 +42,7 @@ fn have_same_counter(a: ObjRef<'_>, b: ObjRef<'_>) -> bool
     }
 }
 
-// The next object, and how many like it are passed with it.
+// The next object, and how many of it, itself counted, are passed.
 fn next_alike<'a>(objects: &mut ObjectColumns<'a>) -> (ObjRef<'a>, u64)
     requires { 0 < length objects.old }
     ensures { objects.old ≡ replicate result.1 (object_of result.0) ++ objects.new }

@@ -5,8 +5,7 @@ use Rattle.std.specs.Prelude.{IsSome}
 use Rattle.std.specs.List.{AllByRecursion}
 use Rattle.am_types.specs.Views.{key_of}
 use Rattle.am_delta.specs.Deltas.{AllBetween, stretch}
-use Rattle.am_fields.specs.Fields.{key_at as key_there}
-use Rattle.am_fields.specs.Limits.{counters_beside}
+use Rattle.am_fields.specs.Fields.{key_at as key_there, counters_beside}
 use Rattle.am_fields.proofs.Judging.{same_some}
 use Rattle.am_fields.proofs.CountersRead.{alone, first_of_all, keys_end, keys_alike, keys_by, keys_within, limits_kept}
 use Rattle.am_fields.proofs.keys.are_keys.Goals as goal
