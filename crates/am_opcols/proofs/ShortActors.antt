@@ -1,7 +1,6 @@
 -- The actors that operations within their limits name are within theirs.
---     short_actors     each has 1 to 1,024 bytes
---     short_at         so has one at a place
---     all_left         what is true of all is true of those that were noted of them, and are left
+--     short_at         one of actors that each have 1 to 1,024 bytes has so many
+--     short_others     so have those that operations name, without the author
 use Rattle.std.proofs.Common.{ℕ, ◌<◌, List, [], ◌∷◌, ◌++◌, length, map, get_or, sym, subst, Bor, inl, inr, ⊎_elim}
 use Rattle.std.specs.List.{flat_map, AllByRecursion}
 use Rattle.std.specs.Option.{option_to_list}
@@ -16,8 +15,8 @@ use Rattle.am_fields.specs.Layout.{object_actor, key_actor, flat}
 use Rattle.am_fields.specs.Limits.{IsWithin, IsObjectWithin, IsKeyWithin, IsShortActor}
 use Rattle.am_fields.proofs.Lists.{all-append}
 use Rattle.am_opcols.specs.Columns.{AreOpsWithin}
-use Rattle.am_opcols.specs.Noted.{Notes}
-use Rattle.am_opcols.specs.Others.{actors_of}
+use Rattle.am_opcols.specs.Others.{actors_of, others}
+use Rattle.am_opcols.proofs.NamedAlone.{others_alone}
 use Rattle.am_opcols.proofs.NotedLaws.{at_each, at_listed}
 
 object_short : (object : ObjId) → IsObjectWithin object → AllByRecursion IsShortActor (option_to_list (object_actor object))
@@ -45,7 +44,7 @@ each_short (o ∷ ops) objects keys preds =
     let own = all-append IsShortActor (option_to_list (object_actor o.obj) ++ option_to_list (key_actor o.key)) (map (λ id. id.actor) o.preds) named (ids_short o.preds p.0) in
     all-append IsShortActor (actors_of o) (flat_map actors_of ops) own (each_short ops objects.1 keys.1 p.1)
 
-pub short_actors : (ops : List Op) → AreOpsWithin ops → AllByRecursion IsShortActor (flat_map actors_of ops)
+short_actors : (ops : List Op) → AreOpsWithin ops → AllByRecursion IsShortActor (flat_map actors_of ops)
 short_actors ops within = each_short ops within.objects within.keys within.preds
 
 all_listed : (P : List ℕ → Type 0) (xs : List (List ℕ)) (a : List ℕ) → AllByRecursion P xs → IsListed xs a → P a
@@ -56,7 +55,7 @@ all_listed P (x ∷ xs) a all (inr h) = all_listed P xs a all.1 h
 pub short_at : (xs : List (Bor (List ℕ))) → AllByRecursion IsShortActor (map (λ (a : Bor (List ℕ)). a.now) xs) → (i : ℕ) (d : Bor (List ℕ)) → i < length xs → IsShortActor ((get_or xs i d).now)
 short_at xs all i d n = all_listed IsShortActor (map (λ (a : Bor (List ℕ)). a.now) xs) ((get_or xs i d).now) all (at_listed xs i d n)
 
-pub all_left : (P : List ℕ → Type 0) (author : List ℕ) (actors noted left : List (List ℕ)) → Notes author actors [] noted
-    → ((a : List ℕ) → (IsListed left a → IsListed noted a) × (IsListed noted a → IsListed left a)) → AllByRecursion P actors → AllByRecursion P left
-all_left P author actors noted left n same all =
-    at_each P left (λ a h. ⊎_elim (λ w. all_listed P actors a all w.0) (λ z. absurd z) (n.alone a ((same a).0 h)))
+pub short_others : (author : List ℕ) (ops : List Op) → AreOpsWithin ops → AllByRecursion IsShortActor (others author ops)
+short_others author ops within =
+    at_each IsShortActor (others author ops)
+    (λ a h. ⊎_elim (λ w. all_listed IsShortActor (flat_map actors_of ops) a (short_actors ops within) w.0) (λ z. absurd z) (others_alone author (flat_map actors_of ops) [] a h))

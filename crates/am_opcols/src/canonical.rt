@@ -1,5 +1,5 @@
 //! Whether columns that were read are the canonical ones of their operations.
-ghost use Rattle.std.specs.Prelude.{◌≡◌, ◌↔◌, ◌≤◌, ◌∷◌, [], length, IsTrue, IfOk, OnErr};
+ghost use Rattle.std.specs.Prelude.{◌≡◌, ◌↔◌, ◌≤◌, ◌∷◌, [], length, map, IsTrue, IfOk, OnErr};
 ghost use Rattle.am_colmeta.specs.Metadata.{listing, Ascend};
 ghost use Rattle.am_colmeta.specs.Judgement.{AreKnown};
 ghost use Rattle.am_opcols.specs.Columns.{op_specifications, SpellsOps};
@@ -12,9 +12,9 @@ use crate::each_column::{are_numbers_canonical, are_remaining_canonical};
 use crate::found::OpColumns;
 use crate::listed::{are_named, ascend, is_same, lists};
 use crate::naming::are_named_by;
-use crate::others::others_of;
+use crate::others::others_in;
 use am_colmeta::{ActorList, Columns};
-use am_types::{ActorId, Op};
+use am_types::Op;
 use std::alloc::{AllocError, Global};
 
 // The most other actors that are sought among owned operations one by one.
@@ -33,19 +33,17 @@ fn are_plain(columns: &OpColumns<'_>, author: &[u8], others: &ActorList<'_>) -> 
 }
 
 // Whether just these actors are listed.
-fn are_listed(listed: &ActorList<'_>, actors: &[ActorId]) -> bool
-    ensures { IsTrue result ↔ (listed.now ≡ actors.now) }
+fn are_listed(listed: &ActorList<'_>, actors: &[&[u8]]) -> bool
+    ensures { IsTrue result ↔ (listed.now ≡ map (λ a. a.now) actors.now) }
 {
     let mut rest = listed.again();
-    let mut left = actors;
-    while let Some((first, more)) = left.split_first() {
-        let Some(actor) = rest.next() else {
+    for actor in actors {
+        let Some(next) = rest.next() else {
             return false;
         };
-        if !is_same(actor, first.as_slice()) {
+        if !is_same(next, actor) {
             return false;
         }
-        left = more;
     }
     rest.next().is_none()
 }
@@ -102,7 +100,7 @@ impl<'a> OpColumns<'a> {
         if others.count() <= FEW {
             return Ok(are_named_by(others, ops));
         }
-        let named = others_of(alloc, ops, author)?;
+        let named = others_in(alloc, ops, author)?;
         Ok(are_listed(others, &named))
     }
 }

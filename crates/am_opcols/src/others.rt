@@ -146,6 +146,19 @@ fn copies_of(alloc: Global, actors: &[&[u8]]) -> Result<Vec<ActorId>, AllocError
 }
 
 // The actors that operations name, without the author, ascending.
+pub fn others_in<'a, O: ReadOp>(
+    alloc: Global,
+    ops: &'a [O],
+    author: &[u8],
+) -> Result<Vec<&'a [u8]>, AllocError>
+    ensures { IfOk result (λ named. map (λ a. a.now) named.items ≡ others author.now (map O.op ops.now)) }
+{
+    let mut noted = noted_in(alloc, author, ops)?;
+    sort_once(&mut noted)?;
+    Ok(noted)
+}
+
+// The same, owned.
 pub fn others_of<O: ReadOp>(
     alloc: Global,
     ops: &[O],
@@ -154,7 +167,6 @@ pub fn others_of<O: ReadOp>(
     requires { AreOpsWithin (map O.op ops.now) }
     ensures { IfOk result (λ known. known.items ≡ others author.now (map O.op ops.now)) }
 {
-    let mut noted = noted_in(alloc, author, ops)?;
-    sort_once(&mut noted)?;
-    copies_of(alloc, &noted)
+    let named = others_in(alloc, ops, author)?;
+    copies_of(alloc, &named)
 }

@@ -1,8 +1,7 @@
-use Rattle.std.proofs.Common.{◌≡◌, length}
+use Rattle.std.proofs.Common.{◌≡◌, drop, map}
 use Rattle.am_opcols.proofs.canonical.are_listed.Given as goal
 
-abbrev pub invariant-loop-first : goal.invariant-loop-first
-invariant-loop-first l = (l.rest ≡ l.left → l.fn.listed ≡ l.fn.actors) × (l.fn.listed ≡ l.fn.actors → l.rest ≡ l.left)
-
-abbrev pub decreases-loop-first : goal.decreases-loop-first
-decreases-loop-first l = length l.left
+abbrev pub invariant-loop-actor : goal.invariant-loop-actor
+invariant-loop-actor l =
+    (l.rest ≡ map (λ a. a.now) (drop l.actor-index l.actors) → l.listed ≡ map (λ a. a.now) l.actors)
+    × (l.listed ≡ map (λ a. a.now) l.actors → l.rest ≡ map (λ a. a.now) (drop l.actor-index l.actors))

@@ -1,6 +1,5 @@
-use Rattle.std.proofs.Common.{refl, sym, ap, subst, ◌∙◌}
+use Rattle.std.proofs.Common.{Bor, ℕ, List, map, refl, sym, ap, subst, ◌∙◌}
 use Rattle.std.proofs.lemmas.List.{map-id}
-use Rattle.am_opcols.specs.Columns.{AreOpsWithin}
 use Rattle.am_opcols.specs.EachColumn.{AreNamed}
 use Rattle.am_opcols.specs.Others.{others}
 use Rattle.am_opcols.proofs.CanonicalRead.{tested, untested}
@@ -23,14 +22,11 @@ returns-then-count-le-FEW-clause-judged c = (
       c.are_named_by.ensures.1 passed.named,
 )
 
-pub others_of-requires : goal.others_of-requires
-others_of-requires c = subst AreOpsWithin (sym (map-id c.args.ops.now)) (c.requires.spelled).within
-
 pub returns-clause-judged : goal.returns-clause-judged
 returns-clause-judged c = (
   λ e.
-      let own = c.are_listed.ensures.0 e ∙ c.deref.ensures.value ∙ c.in_ok-named.ensures ∙ ap (others c.args.author.now) (map-id c.args.ops.now) in
+      let own = c.are_listed.ensures.0 e ∙ ap (map (λ (a : Bor (List ℕ)). a.now)) c.deref.ensures.value ∙ c.in_ok-named.ensures ∙ ap (others c.args.author.now) (map-id c.args.ops.now) in
       let named = (others_are_named c.args.author.now c.args.ops.now).2 in
       tested c.args.author.now c.args.others.now c.args.self.now c.args.ops.now c.requires.spelled c.requires.ascend c.requires.known (c.if-not-are_plain.ensures.0 refl) (subst (λ l. AreNamed l c.args.ops.now) (sym own) named),
-  λ w. c.are_listed.ensures.1 (w.0 ∙ sym (c.deref.ensures.value ∙ c.in_ok-named.ensures ∙ ap (others c.args.author.now) (map-id c.args.ops.now))),
+  λ w. c.are_listed.ensures.1 (w.0 ∙ sym (ap (map (λ (a : Bor (List ℕ)). a.now)) c.deref.ensures.value ∙ c.in_ok-named.ensures ∙ ap (others c.args.author.now) (map-id c.args.ops.now))),
 )
