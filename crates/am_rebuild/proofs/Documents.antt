@@ -9,10 +9,6 @@ use Rattle.am_types.specs.declared.Hash.{Hash}
 use Rattle.am_types.specs.declared.Meta.{Meta}
 use Rattle.am_types.specs.declared.Row.{Row}
 use Rattle.am_types.specs.declared.Table.{Table}
-use Rattle.am_types.specs.declared.ObjId.{ObjId}
-use Rattle.am_types.specs.declared.ObjId.TheVariants.{Root, Made}
-use Rattle.am_types.specs.declared.Key.{Key}
-use Rattle.am_types.specs.declared.Key.TheVariants.{Name, Head, Elem}
 use Rattle.am_types.specs.Order.{bytes_cmp, among}
 use Rattle.am_types.specs.Members.{Member, changes, heads}
 use Rattle.am_types.specs.ValidSets.{Valid, JoinInTurn}
@@ -20,12 +16,11 @@ use Rattle.am_types.specs.Deliver.{MayCome}
 use Rattle.am_types.specs.Documents.{History, object_actors, key_actors}
 use Rattle.am_change.specs.Hashes.{own_hash, with_hash, with_hashes}
 use Rattle.am_delivery.specs.Waiting.{members_of}
-use Rattle.am_fields.specs.Limits.{IsWithin, IsObjectWithin, IsKeyWithin, IsShortActor, IsBelow}
+use Rattle.am_fields.specs.Limits.{IsShortActor, IsBelow}
 use Rattle.am_fields.proofs.Lists.{all-append}
 use Rattle.am_laws.specs.Tables as tables
 use Rattle.am_doc.specs.Sound.{IsSound}
 use Rattle.am_histories.specs.Laws.{AreHashedBy, table_actors, row_actors}
-use Rattle.am_rebuild.specs.Copied.{IsObjectShort, IsKeyShort, IsCopied}
 use Rattle.am_rebuild.specs.Documents.{bare, IsHistoryOf, changes_of, AreOwn}
 use Rattle.am_rebuild.specs.Judged.{IsLeastApart, IsTheHistory}
 
@@ -88,22 +83,6 @@ authors_of t s = short_authors t.metas (s.metas).authors
 split : {A : Type 0} (P : A → Type 0) (xs ys : List A) → AllByRecursion P (xs ++ ys) → AllByRecursion P xs × AllByRecursion P ys
 split P [] ys a = (tt, a)
 split P (x ∷ xs) ys a = let again = split P xs ys a.1 in ((a.0, again.0), again.1)
-
-short_object : (o : ObjId) → IsObjectWithin o → IsObjectShort o
-short_object Root w = tt
-short_object (Made id) w = (w.some, w.few)
-
-short_key : (k : Key) → IsKeyWithin k → IsKeyShort k
-short_key (Name n) w = tt
-short_key Head w = tt
-short_key (Elem id) w = (w.some, w.few)
-
-copied : (rows : List Row) → AllByRecursion IsObjectWithin (map (λ (r : Row). r.obj) rows) → AllByRecursion IsKeyWithin (map (λ (r : Row). r.key) rows) → AllByRecursion IsWithin (map (λ (r : Row). r.id) rows) → AllByRecursion IsCopied rows
-copied [] o k i = tt
-copied (r ∷ rows) o k i = (record { object = short_object r.obj o.0; key = short_key r.key k.0; id = (i.0.some, i.0.few) }, copied rows o.1 k.1 i.1)
-
-pub rows_copied : (t : Table) → IsSound t → AllByRecursion IsCopied t.rows
-rows_copied t s = copied t.rows (s.rows).objects (s.rows).keys (s.rows).ids
 
 abbrev Among : List (List ℕ) → List ℕ → Type 0
 Among actors a = IsTrue (among bytes_cmp actors a)

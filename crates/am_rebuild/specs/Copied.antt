@@ -1,12 +1,10 @@
--- Rows that can be lent, and copied.
+-- Objects and places that can be copied.
 --     IsObjectShort, IsKeyShort     the actor of the id that an object or a key has, if it has one, has 1 to 1,024 bytes
---     IsCopied r                    so have those of the object, the place and the id of the row r
 use Rattle.std.specs.Prelude.{⊤}
 use Rattle.am_types.specs.declared.ObjId.{ObjId}
 use Rattle.am_types.specs.declared.ObjId.TheVariants.{Root, Made}
 use Rattle.am_types.specs.declared.Key.{Key}
 use Rattle.am_types.specs.declared.Key.TheVariants.{Name, Head, Elem}
-use Rattle.am_types.specs.declared.Row.{Row}
 use Rattle.am_fields.specs.Limits.{IsShortActor}
 
 abbrev pub IsObjectShort : ObjId → Type 0
@@ -17,8 +15,3 @@ abbrev pub IsKeyShort : Key → Type 0
 IsKeyShort (Name n) = ⊤
 IsKeyShort Head = ⊤
 IsKeyShort (Elem id) = IsShortActor id.actor
-
-pub record IsCopied (r : Row) : Type 0 where
-  pub object : IsObjectShort r.obj
-  pub key : IsKeyShort r.key
-  pub id : IsShortActor r.id.actor

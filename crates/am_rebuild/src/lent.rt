@@ -1,18 +1,14 @@
 //! Rows that are lent, from the columns of a document or from rows.
 ghost use Rattle.std.specs.Prelude.{◌≡◌, IfOk, map, option_map};
-ghost use Rattle.std.specs.List.{AllByRecursion};
-ghost use Rattle.am_types.specs.Views.{id_of, key_of, object_of};
-ghost use Rattle.am_fields.specs.Limits.{IsShortActor};
+ghost use Rattle.am_types.specs.Views.{id_of};
 ghost use Rattle.am_doccols.specs.Rows.{row_of};
-ghost use Rattle.am_rebuild.specs.Copied.{IsObjectShort, IsKeyShort, IsCopied};
 
 use am_doccols::{RowCursor, RowRef, SuccCursor};
-use am_types::{IdRef, Key, KeyRef, ObjId, ObjRef, OpId, Row, Text, ValueRef};
+use am_types::{IdRef, KeyRef, ObjRef, OpId, Row, Text, ValueRef};
 use std::alloc::{AllocError, Global};
 use std::marker::Model;
 
-/// A row that is lent. Only the list of its successors takes memory, if it has any. Contracts see the row; the actors of its
-/// object, place and id are as long as actors may be.
+/// A row that is lent. Only the list of its successors takes memory, if it has any. Contracts see the row.
 #[derive(Drop)]
 pub struct LentRow<'a> {
     pub(crate) obj: ObjRef<'a>,
@@ -28,25 +24,12 @@ pub struct LentRow<'a> {
 
 impl<'a> Model for LentRow<'a> {
     ghost use Rattle.am_types.specs.declared.Row.{Row};
-    ghost use Rattle.am_rebuild.specs.Copied.{IsCopied};
 
     ghost Value = { Row };
 
     ghost use Rattle.am_rebuild.specs.Lent.{lent_row};
 
     ghost view = { lent_row };
-
-    ghost invariant = { λ r. IsCopied (lent_row r) };
-}
-
-impl<'a> LentRow<'a> {
-    /// Its id.
-    pub(crate) fn id(&self) -> IdRef<'a>
-        ensures id { id_of result ≡ self.now.id }
-        ensures short { IsShortActor self.now.id.actor }
-    {
-        self.id
-    }
 }
 
 // ---- from the columns of a document
@@ -69,7 +52,6 @@ fn succs_in<'a>(alloc: Global, succs: &mut SuccCursor<'a>) -> Result<Vec<IdRef<'
 
 // The row, whose successors are read.
 fn row_in<'a>(alloc: Global, row: &mut RowRef<'a>) -> Result<LentRow<'a>, AllocError>
-    requires { IsCopied (row_of row.old) }
     ensures { IfOk result (λ lent. lent ≡ row_of row.old) }
 {
     Ok(LentRow {
@@ -90,7 +72,6 @@ pub(crate) fn rows_in<'a>(
     alloc: Global,
     rows: RowCursor<'a>,
 ) -> Result<Vec<LentRow<'a>>, AllocError>
-    requires { AllByRecursion IsCopied rows }
     ensures { IfOk result (λ lent. lent.items ≡ rows.entry) }
 {
     let mut lent = Vec::with_capacity(alloc, rows.left() as usize)?;
@@ -103,37 +84,6 @@ pub(crate) fn rows_in<'a>(
 }
 
 // ---- from rows
-
-fn lend_id(id: &OpId) -> IdRef<'_>
-    ensures lent { id_of result ≡ id.now }
-    ensures short { IsShortActor id.now.actor }
-{
-    IdRef {
-        counter: id.counter,
-        actor: id.actor.as_slice(),
-    }
-}
-
-fn lend_object(object: &ObjId) -> ObjRef<'_>
-    ensures lent { object_of result ≡ object.now }
-    ensures short { IsObjectShort object.now }
-{
-    match object {
-        ObjId::Root => ObjRef::Root,
-        ObjId::Made(id) => ObjRef::Made(lend_id(id)),
-    }
-}
-
-fn lend_key(key: &Key) -> KeyRef<'_>
-    ensures lent { key_of result ≡ key.now }
-    ensures short { IsKeyShort key.now }
-{
-    match key {
-        Key::Name(name) => KeyRef::Name(name.as_str()),
-        Key::Head => KeyRef::Head,
-        Key::Elem(id) => KeyRef::Elem(lend_id(id)),
-    }
-}
 
 fn lend_ids<'a>(alloc: Global, ids: &'a [OpId]) -> Result<Vec<IdRef<'a>>, AllocError>
     ensures { IfOk result (λ lent. map id_of lent.items ≡ ids.now) }
@@ -158,9 +108,9 @@ fn lend_row<'a>(alloc: Global, row: &'a Row) -> Result<LentRow<'a>, AllocError>
     ensures { IfOk result (λ lent. lent ≡ row.now) }
 {
     Ok(LentRow {
-        obj: lend_object(&row.obj),
-        key: lend_key(&row.key),
-        id: lend_id(&row.id),
+        obj: row.obj.lend(),
+        key: row.key.lend(),
+        id: row.id.lend(),
         insert: row.insert,
         action: row.action,
         value: row.value.lend(),

@@ -2,17 +2,15 @@ use Rattle.std.proofs.Common.{ℕ, List, ◌≡◌, ◌<◌, ◌^◌, None, All,
 use Rattle.std.proofs.lemmas.List.Elements.{recursion_from_All}
 use Rattle.std.specs.List.{AllByRecursion}
 use Rattle.am_types.specs.declared.Hash.{Hash}
-use Rattle.am_types.specs.declared.Row.{Row}
 use Rattle.am_types.specs.declared.Meta.{Meta}
 use Rattle.am_types.specs.declared.Table.{Table}
 use Rattle.am_types.specs.Order.{bytes_cmp, hash_cmp, among, Ascends}
 use Rattle.am_fields.specs.Limits.{IsShortActor}
 use Rattle.am_change.specs.Hashes.{own_hash}
 use Rattle.am_histories.specs.Laws.{table_actors}
-use Rattle.am_rebuild.specs.Copied.{IsCopied}
 use Rattle.am_rebuild.specs.Documents.{bare}
 use Rattle.am_rebuild.specs.Judged.{IsJudged}
-use Rattle.am_rebuild.proofs.Documents.{authors_of, rows_copied, maxes_of, actors_of}
+use Rattle.am_rebuild.proofs.Documents.{authors_of, maxes_of, actors_of}
 use Rattle.am_rebuild.proofs.document.judged_in.Goals as goal
 
 pub actors_in-requires : goal.actors_in-requires
@@ -20,9 +18,6 @@ actors_in-requires c = subst (λ (actors : List (List ℕ)). AllByRecursion IsSh
 
 pub metas_in-requires : goal.metas_in-requires
 metas_in-requires c = subst (λ (ms : List Meta). AllByRecursion (λ (m : Meta). IsShortActor m.actor) ms) (sym c.metas.ensures) (authors_of c.args.doc.now c.requires)
-
-pub rows_in-requires : goal.rows_in-requires
-rows_in-requires c = subst (λ (rs : List Row). AllByRecursion IsCopied rs) (sym c.rows.ensures) (rows_copied c.args.doc.now c.requires)
 
 pub judge_lent-requires-clause-maxes : goal.judge_lent-requires-clause-maxes
 judge_lent-requires-clause-maxes c =

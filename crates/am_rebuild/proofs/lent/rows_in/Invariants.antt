@@ -1,10 +1,8 @@
 use Rattle.std.proofs.Common.{◌≡◌, ◌++◌, length}
-use Rattle.std.specs.List.{AllByRecursion}
-use Rattle.am_rebuild.specs.Copied.{IsCopied}
 use Rattle.am_rebuild.proofs.lent.rows_in.Given as goal
 
 abbrev pub invariant-loop-alloc : goal.invariant-loop-alloc
-invariant-loop-alloc l = (AllByRecursion IsCopied l.rest) × (l.lent.items ++ l.rest ≡ l.fn.rows)
+invariant-loop-alloc l = l.lent.items ++ l.rest ≡ l.fn.rows
 
 abbrev pub decreases-loop-alloc : goal.decreases-loop-alloc
 decreases-loop-alloc l = length l.rest
