@@ -155,6 +155,14 @@ fn tells_the_least_hash_of_other_heads(rt: HostRuntime) {
 }
 
 #[test]
+fn tells_other_heads_of_two_changes(rt: HostRuntime) {
+    let mut higher = TEXT;
+    higher[6] ^= 1;
+    let fault = fault_of(rt.alloc(), &higher);
+    assert!(rt; is_mismatch(fault, &TEXT[6..38]), "{fault:?}");
+}
+
+#[test]
 fn refuses_exchanged_rows(rt: HostRuntime) {
     assert_eq!(rt;
         fault_of(rt.alloc(), &EXCHANGED),

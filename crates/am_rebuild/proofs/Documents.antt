@@ -1,5 +1,6 @@
 -- What is judged of the bare table of a document, of the document.
-use Rattle.std.proofs.Common.{ℕ, ◌≡◌, ◌<◌, ◌^◌, List, [], ◌∷◌, ◌++◌, map, flat_map, All, IsTrue, refl, sym, ap, ◌∙◌, subst}
+use Rattle.std.proofs.Common.{ℕ, ◌≡◌, ◌<◌, ◌^◌, List, [], ◌∷◌, ◌++◌, map, flat_map, None, All, IsTrue, refl, sym, ap, ◌∙◌, subst}
+use Rattle.std.specs.Prelude.{Result, Ok, Err, IsErrAnd}
 use Rattle.std.specs.List.{AllByRecursion}
 use Rattle.std.proofs.lemmas.List.Elements.{All-from_recursion, recursion_from_All}
 use Rattle.std.proofs.lemmas.List.Sorted.{IsPermutation-sym, All-permutation}
@@ -13,15 +14,19 @@ use Rattle.am_types.specs.Order.{bytes_cmp, among}
 use Rattle.am_types.specs.Members.{Member, changes, heads}
 use Rattle.am_types.specs.ValidSets.{Valid, JoinInTurn}
 use Rattle.am_types.specs.Deliver.{MayCome}
+use Rattle.am_types.specs.Fine.{Fine}
 use Rattle.am_types.specs.Documents.{History, object_actors, key_actors}
 use Rattle.am_change.specs.Hashes.{own_hash, with_hash, with_hashes}
-use Rattle.am_delivery.specs.Waiting.{members_of}
+use Rattle.am_delivery.specs.Waiting.{member_of, members_of}
 use Rattle.am_fields.specs.Limits.{IsShortActor, IsBelow}
 use Rattle.am_fields.proofs.Lists.{all-append}
 use Rattle.am_laws.specs.Tables as tables
 use Rattle.am_doc.specs.Sound.{IsSound}
 use Rattle.am_histories.specs.Laws.{AreHashedBy, table_actors, row_actors}
-use Rattle.am_rebuild.specs.Documents.{bare, IsHistoryOf, changes_of, AreOwn}
+use Rattle.am_rebuild.specs.declared.fault.RebuildFault.{RebuildFault}
+use Rattle.am_rebuild.specs.declared.fault.RebuildFault.TheVariants.{NoMemory}
+use Rattle.am_rebuild.specs.declared.rebuilt.Rebuilt.{Rebuilt}
+use Rattle.am_rebuild.specs.Documents.{bare, IsHistoryOf, Rebuilds, changes_of, changes_rebuilt, AreOwn}
 use Rattle.am_rebuild.specs.Judged.{IsLeastApart, IsTheHistory}
 
 -- ---- members beside their own hashes
@@ -130,7 +135,7 @@ in_turn_come : (B L : List Member) → JoinInTurn B L → AllByRecursion MayCome
 in_turn_come B [] j = tt
 in_turn_come B (m ∷ L) j = (record { hash = j.0.hash; fine = j.0.fine }, in_turn_come (B ++ m ∷ []) L j.1)
 
-valid_come : (C : List Member) → Valid C → All MayCome C
+pub valid_come : (C : List Member) → Valid C → All MayCome C
 valid_come C v = All-permutation MayCome v.listing C (IsPermutation-sym C v.listing v.same) (All-from_recursion MayCome v.listing (in_turn_come [] v.listing v.in_turn))
 
 module _ (t : Table) (R : List Member) (es : List (Hash × Change)) (same : members_of es ≡ R) (h : IsTheHistory own_hash (bare t) R) where
@@ -142,3 +147,23 @@ module _ (t : Table) (R : List Member) (es : List (Hash × Change)) (same : memb
 
   pub entries_come : All MayCome (members_of es)
   entries_come = subst (All MayCome) (sym same) (valid_come R h.history.valid)
+
+-- ---- the parts of a table that were read
+
+module _ (t : Table) (actors : List (List ℕ)) (hs : List Hash) (ms : List Meta) (rs : List Row) (a : actors ≡ t.actors) (h : hs ≡ t.heads) (m : ms ≡ t.metas) (r : rs ≡ t.rows) where
+  pub read_is_bare : record { actors = actors; heads = hs; metas = ms; rows = rs; suffix = None } ≡ bare t
+  read_is_bare = λ i. record { actors = a i; heads = h i; metas = m i; rows = r i; suffix = None }
+
+-- ---- an entry that is let go
+
+come_here : (before rest : List (Hash × Change)) (x : Hash × Change) → AllByRecursion MayCome (members_of (before ++ x ∷ rest)) → MayCome (member_of x)
+come_here [] rest x a = a.0
+come_here (e ∷ before) rest x a = come_here before rest x a.1
+
+pub comes_fine : (es before rest : List (Hash × Change)) (x : Hash × Change) → before ++ x ∷ rest ≡ es → All MayCome (members_of es) → Fine x.1
+comes_fine es before rest x e all = (come_here before rest x (recursion_from_All MayCome (members_of (before ++ x ∷ rest)) (subst (λ l. All MayCome (members_of l)) (sym e) all))).fine
+
+-- where there was no memory nothing is said
+pub no_memory : (t : Table) (r : Result Rebuilt RebuildFault) → IsErrAnd r (λ e. e ≡ NoMemory) → Rebuilds t (changes_rebuilt r)
+no_memory t (Ok x) e = absurd e
+no_memory t (Err fault) e = subst (λ (f : RebuildFault). Rebuilds t (Err f)) (sym e) tt

@@ -7,11 +7,6 @@ use Rattle.std.proofs.lemmas.List.{append_assoc, map-append, flat_map_more, take
 pub taken_more : {X : Type 0} (xs : List X) (i : ℕ) (x : X) (before new : List X) → i < length xs → x ≡ get_or xs i x → before ≡ take i xs → new ≡ before ++ x ∷ [] → new ≡ take (i + 1) xs
 taken_more xs i x before new l is b n = n ∙ ap (λ a. a ++ x ∷ []) b ∙ ap (λ y. take i xs ++ y ∷ []) is ∙ sym (take_more xs i x l)
 
--- the next of the list is what is seen of what was pushed
-pub seen_more : {X Y : Type 0} (f : X → Y) (ys : List Y) (i : ℕ) (y : Y) (x : X) (before new : List X) → i < length ys → y ≡ get_or ys i y → f x ≡ y → map f before ≡ take i ys → new ≡ before ++ x ∷ [] → map f new ≡ take (i + 1) ys
-seen_more f ys i y x before new l is same b n =
-    taken_more ys i y (map f before) (map f new) l is b (ap (map f) n ∙ map-append f before (x ∷ []) ∙ ap (λ z. map f before ++ z ∷ []) same)
-
 -- what the next of the list gives was appended
 pub given_more : {X A : Type 0} (f : X → List A) (xs : List X) (i : ℕ) (x : X) (before new : List A) → i < length xs → x ≡ get_or xs i x → before ≡ flat_map f (take i xs) → new ≡ before ++ f x → new ≡ flat_map f (take (i + 1) xs)
 given_more f xs i x before new l is b n =

@@ -2,30 +2,31 @@
 ghost use Rattle.am_types.specs.declared.Table.{Table};
 ghost use Rattle.am_types.specs.declared.Row.{Row};
 ghost use Rattle.am_types.specs.declared.Meta.{Meta as AMeta};
+ghost use Rattle.am_change.specs.Hashes.{own_hash};
 ghost use Rattle.am_rebuild.specs.Mentions.{ArePlaced, AreSortedMentions};
 ghost use Rattle.am_rebuild.specs.Names.{names_of};
 ghost use Rattle.am_rebuild.specs.Joined.{BuildsOne, TakesNext, BuildsGapless};
 ghost use Rattle.std.specs.Prelude.{◌≡◌, [], ◌^◌, ◌<◌, List, All, Contains, IfOk};
 
 use crate::change::change_at;
-use crate::joining::Joining;
+use crate::gathered::Gathered;
 use crate::lent_change::LentChange;
 use crate::mention::Named;
 use am_types::Meta;
 use std::alloc::{AllocError, Global};
 
 /// Takes in what was built of a meta, where it is a change that joins.
-fn join_next<J: Joining>(
+fn join_next<'a>(
     alloc: Global,
-    joining: &mut J,
-    change: Option<LentChange<'_>>,
+    gathered: &mut Gathered<'a>,
+    change: Option<LentChange<'a>>,
 ) -> Result<bool, AllocError>
-    ensures { IfOk result (λ joined. (rows : List Row) (meta : AMeta) → BuildsOne rows (J.members joining.old) meta change.entry → TakesNext J.hash_of rows (J.members joining.old) meta (J.members joining.new) joined) }
+    ensures { IfOk result (λ joined. (rows : List Row) (meta : AMeta) → BuildsOne rows gathered.old meta change.entry → TakesNext own_hash rows gathered.old meta gathered.new joined) }
 {
     match change {
         None => Ok(false),
         Some(change) => {
-            let joined = joining.join(alloc, &change)?;
+            let joined = gathered.join(alloc, change)?;
             Ok(joined)
         }
     }
@@ -33,26 +34,26 @@ fn join_next<J: Joining>(
 
 /// Builds the changes of the metas from all mentions in the rows, until one doesn't join, or a counter is missing. The mentions
 /// are let go before the last change joins.
-pub(crate) fn build_from<J: Joining>(
+pub(crate) fn build_from<'a>(
     alloc: Global,
-    joining: &mut J,
+    gathered: &mut Gathered<'a>,
     names: &[&[u8]],
-    all: Vec<Named<'_>>,
-    metas: &[Meta],
+    all: Vec<Named<'a>>,
+    metas: &'a [Meta],
 ) -> Result<bool, AllocError>
-    requires empty { J.members joining.old ≡ [] }
+    requires empty { gathered.old ≡ [] }
     requires placed { ArePlaced (names_of names.now) all.items }
     requires named { All (λ m. Contains (names_of names.now) m.actor) metas.now }
     requires maxes { All (λ m. m.max < 2 ^ 53) metas.now }
-    ensures { IfOk result (λ built. (t : Table) → AreSortedMentions t.rows all.entry.items → t.metas ≡ metas.now → BuildsGapless J.hash_of t (J.members joining.new) built) }
+    ensures { IfOk result (λ built. (t : Table) → AreSortedMentions t.rows all.entry.items → t.metas ≡ metas.now → BuildsGapless own_hash t gathered.new built) }
 {
     let mut left = all;
     for (i, meta) in metas.iter().enumerate() {
-        let change = change_at(alloc, joining, names, &left, meta)?;
+        let change = change_at(alloc, gathered, names, &left, meta)?;
         if i + 1 == metas.len() {
             left = Vec::new(alloc);
         }
-        let joined = join_next(alloc, joining, change)?;
+        let joined = join_next(alloc, gathered, change)?;
         if !joined {
             return Ok(false);
         }

@@ -14,18 +14,6 @@ use am_types::{
 };
 use std::alloc::{AllocError, Global};
 
-pub(crate) fn bytes_in(alloc: Global, bytes: &[u8]) -> Result<Bytes, AllocError>
-    ensures { IfOk result (λ copy. copy ≡ bytes.now) }
-{
-    Bytes::copy_of(alloc, bytes)
-}
-
-pub(crate) fn text_in(alloc: Global, text: &str) -> Result<Text, AllocError>
-    ensures { IfOk result (λ copy. copy ≡ text.now) }
-{
-    Text::copy_of(alloc, text)
-}
-
 // The actor, owned, which shares its bytes with those that came before.
 fn actor_in(alloc: Global, known: &mut SharedActors, bytes: &[u8]) -> Result<ActorId, AllocError>
     requires { IsShortActor bytes.now }
@@ -92,7 +80,7 @@ pub(crate) fn key_in(
     ensures { IfOk result (λ copy. copy ≡ key_of key.entry) }
 {
     match key {
-        KeyRef::Name(name) => Ok(Key::Name(text_in(alloc, name)?)),
+        KeyRef::Name(name) => Ok(Key::Name(Text::copy_of(alloc, name)?)),
         KeyRef::Head => Ok(Key::Head),
         KeyRef::Elem(id) => Ok(Key::Elem(id_in(alloc, known, id)?)),
     }
@@ -104,7 +92,7 @@ pub(crate) fn value_in(alloc: Global, value: ValueRef<'_>) -> Result<RawValue, A
 {
     Ok(RawValue {
         kind: value.kind,
-        raw: bytes_in(alloc, value.raw)?,
+        raw: Bytes::copy_of(alloc, value.raw)?,
     })
 }
 
@@ -114,7 +102,7 @@ pub(crate) fn mark_in(alloc: Global, mark: Option<&str>) -> Result<Option<Text>,
 {
     match mark {
         None => Ok(None),
-        Some(name) => Ok(Some(text_in(alloc, name)?)),
+        Some(name) => Ok(Some(Text::copy_of(alloc, name)?)),
     }
 }
 
@@ -138,9 +126,9 @@ fn meta_in(alloc: Global, known: &mut SharedActors, meta: MetaRef<'_>) -> Result
         seq: meta.seq,
         max: meta.max,
         time: meta.time,
-        message: text_in(alloc, meta.message)?,
+        message: Text::copy_of(alloc, meta.message)?,
         deps: deps_in(alloc, meta.deps)?,
-        extra: bytes_in(alloc, meta.extra)?,
+        extra: Bytes::copy_of(alloc, meta.extra)?,
     })
 }
 

@@ -34,10 +34,14 @@ fn heads_in(alloc: Global, doc: &DocRef<'_>) -> Result<List<Hash>, AllocError>
     Ok(heads)
 }
 
-/// The changes that joined, and what is found of the document, whose rows stay lent.
-fn judged_in(alloc: Global, doc: &DocRef<'_>) -> Result<(Gathered, Judgement), AllocError>
+/// The answer for the document, whose rows are let go behind it.
+fn answered(alloc: Global, doc: &DocRef<'_>) -> Result<Rebuilt, RebuildFault>
     requires { IsSound doc.now }
-    ensures { IfOk result (λ r. IsJudged own_hash (bare doc.now) r.0 r.1) }
+    ensures judged { Rebuilds doc.now (changes_rebuilt result) }
+    ensures own_hashes { IfOk result (λ r. AreOwn (vec_items r.entries)) }
+    ensures may_come { IfOk result (λ r. All MayCome (members_of (vec_items r.entries))) }
+    ensures of_set { IfOk result (λ r. AreOf (members_of (vec_items r.entries)) r.graph r.index) }
+    ensures valid { IfOk result (λ r. Valid (members_of (vec_items r.entries))) }
 {
     let actors = actors_in(alloc, doc.actors())?;
     let heads = heads_in(alloc, doc)?;
@@ -51,19 +55,23 @@ fn judged_in(alloc: Global, doc: &DocRef<'_>) -> Result<(Gathered, Judgement), A
         rows: &rows,
     };
     let judgement = judge_lent(alloc, &mut gathered, table)?;
-    Ok((gathered, judgement))
+    answer(alloc, gathered, judgement)
 }
 
 /// What is answered where this is found.
-fn answer(gathered: Gathered, judgement: Judgement) -> Result<Rebuilt, RebuildFault>
-    ensures judged { (t : ATable) → IsJudged own_hash (bare t) gathered judgement → Rebuilds t (changes_rebuilt result) }
-    ensures own_hashes { (t : ATable) → IsJudged own_hash (bare t) gathered judgement → IfOk result (λ r. AreOwn (vec_items r.entries)) }
-    ensures may_come { (t : ATable) → IsJudged own_hash (bare t) gathered judgement → IfOk result (λ r. All MayCome (members_of (vec_items r.entries))) }
+fn answer(
+    alloc: Global,
+    gathered: Gathered<'_>,
+    judgement: Judgement,
+) -> Result<Rebuilt, RebuildFault>
+    ensures judged { (t : ATable) → IsJudged own_hash (bare t) gathered.entry judgement → Rebuilds t (changes_rebuilt result) }
+    ensures own_hashes { (t : ATable) → IsJudged own_hash (bare t) gathered.entry judgement → IfOk result (λ r. AreOwn (vec_items r.entries)) }
+    ensures may_come { (t : ATable) → IsJudged own_hash (bare t) gathered.entry judgement → IfOk result (λ r. All MayCome (members_of (vec_items r.entries))) }
     ensures of_set { IfOk result (λ r. AreOf (members_of (vec_items r.entries)) r.graph r.index) }
     ensures valid { IfOk result (λ r. Valid (members_of (vec_items r.entries))) }
 {
     match judgement {
-        Judgement::Whole => Ok(gathered.into_rebuilt()),
+        Judgement::Whole => Ok(gathered.into_rebuilt(alloc)?),
         Judgement::OtherHeads(hash) => Err(RebuildFault::HeadsMismatch(hash)),
         Judgement::NoHistory => Err(RebuildFault::NoHistory),
     }
@@ -79,8 +87,7 @@ fn rebuilt_from(alloc: Global, doc: &DocRef<'_>) -> Result<Rebuilt, RebuildFault
 {
     doc.is_spelled();
     spelled_tables_are_sound();
-    let (gathered, judgement) = judged_in(alloc, doc)?;
-    answer(gathered, judgement)
+    answered(alloc, doc)
 }
 
 /// The changes of which a document tells, each behind its own hash, in the order of its change rows, with the graph and the

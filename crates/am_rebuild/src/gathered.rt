@@ -1,8 +1,10 @@
-//! Changes that join one after another, each behind its own hash.
+//! Changes that join one after another, each behind its own hash. What only reads a change is generic, so that a proof sees the
+//! change that is read and nothing of what lends it.
 ghost use Rattle.std.specs.Prelude.{◌≡◌, ◌++◌, ◌∷◌, ◌<◌, ◌↔◌, [], List, IfOk, OnOk, OnErr, IsTrue, map};
 ghost use Rattle.std.specs.List.{list_all};
 ghost use Rattle.indexmap.specs.IndexMap.{spare};
 ghost use Rattle.am_types.specs.Fine.{Fine};
+ghost use Rattle.am_types.specs.Operations.{max};
 ghost use Rattle.am_types.specs.Members.{Member, holds};
 ghost use Rattle.am_types.specs.ValidSets.{Valid, Joins};
 ghost use Rattle.am_graph.specs.Graphs.{ForSet};
@@ -11,28 +13,26 @@ ghost use Rattle.am_delivery.specs.Waiting.{members_of};
 ghost use Rattle.am_rebuild.specs.Gathered.{IsOfSet, MayGrow};
 
 use crate::lasts::raise;
-use crate::owned::owned;
+use crate::lent_change::LentChange;
 use am_delivery::joined_is_valid;
 use am_fits::{OpIndex, fits};
 use am_graph::Graph;
-use am_types::{Change, Hash, ReadChange, SharedActors, Verdict, hash_known};
+use am_types::{Hash, ReadChange, Verdict, hash_known};
 use indexmap::IndexMap;
 use std::alloc::{AllocError, Global};
 use std::marker::Model;
 
-/// Changes that joined one after another, each behind its own hash. Contracts see the members.
+/// Changes that joined one after another, as their rows lend them, each behind its own hash. Contracts see the members.
 #[derive(Drop)]
-pub struct Gathered {
-    pub(crate) entries: Vec<(Hash, Change)>,
+pub(crate) struct Gathered<'a> {
+    pub(crate) entries: Vec<(Hash, LentChange<'a>)>,
     pub(crate) graph: Graph,
     pub(crate) index: OpIndex,
     /// The greatest last counter of each actor's changes.
     pub(crate) lasts: IndexMap<Vec<u8>, u64>,
-    /// The actors of the changes, whose bytes are shared.
-    pub(crate) actors: SharedActors,
 }
 
-impl Model for Gathered {
+impl<'a> Model for Gathered<'a> {
     ghost use Rattle.std.specs.Prelude.{List};
     ghost use Rattle.am_types.specs.Members.{Member};
     ghost use Rattle.am_delivery.specs.Waiting.{members_of};
@@ -78,29 +78,29 @@ pub(crate) fn may_join<C: ReadChange>(
 }
 
 /// Takes a change into both, or into neither.
-fn enter(
+fn enter<C: ReadChange>(
     alloc: Global,
     graph: &mut Graph,
     index: &mut OpIndex,
     hash: Hash,
-    change: &Change,
+    change: &C,
 ) -> Result<(), AllocError>
-    requires { MayGrow graph.old index.old (record { hash = hash; change = change.now }) }
-    ensures of_set { OnOk result ((C : List Member) → AreOf C graph.old index.old → AreOf (C ++ record { hash = hash; change = change.now } ∷ []) graph.new index.new) }
+    requires { MayGrow graph.old index.old (record { hash = hash; change = C.change change.now }) }
+    ensures of_set { OnOk result ((D : List Member) → AreOf D graph.old index.old → AreOf (D ++ record { hash = hash; change = C.change change.now } ∷ []) graph.new index.new) }
     ensures graph { OnErr result (graph.new ≡ graph.old) }
     ensures index { OnErr result (index.new ≡ index.old) }
 {
     let totals = index.totals();
     index.admit(alloc, change)?;
-    let count = change.ops.len() as u64;
+    let count = change.ops().len() as u64;
     let added = graph.add(
         alloc,
         hash,
-        &change.actor,
-        change.seq,
-        change.start,
+        change.actor(),
+        change.seq(),
+        change.start(),
         count,
-        change.deps.as_slice(),
+        change.deps(),
     );
     if added.is_err() {
         index.cut(totals);
@@ -109,19 +109,27 @@ fn enter(
     Ok(())
 }
 
-// Takes a change in, behind those that are there.
-fn gather(
+/// The counter of the last operation of a change.
+fn last_of<C: ReadChange>(change: &C) -> u64
+    requires { Fine (C.change change.now) }
+    ensures { result ≡ max (C.change change.now) }
+{
+    change.start() + change.ops().len() as u64 - 1
+}
+
+/// Takes a change in, behind those that are there.
+pub(crate) fn grow<'a>(
     alloc: Global,
-    gathered: &mut Gathered,
+    gathered: &mut Gathered<'a>,
     hash: Hash,
-    change: Change,
+    change: LentChange<'a>,
 ) -> Result<(), AllocError>
     requires { Joins gathered.old (record { hash = hash; change = change }) }
-    ensures ok { OnOk result (gathered.new ≡ gathered.old ++ record { hash = hash; change = change } ∷ []) }
+    ensures ok { OnOk result (gathered.new ≡ gathered.old ++ record { hash = hash; change = change.entry } ∷ []) }
 {
     joined_is_valid();
-    let name = Vec::from_slice(alloc, change.actor.as_slice())?;
-    let last = change.start + change.ops.len() as u64 - 1;
+    let name = Vec::from_slice(alloc, change.actor().as_slice())?;
+    let last = last_of(&change);
     gathered.lasts.reserve(1)?;
     gathered.entries.reserve(1)?;
     enter(
@@ -134,19 +142,4 @@ fn gather(
     raise(&mut gathered.lasts, name, last);
     gathered.entries.push((hash, change))?;
     Ok(())
-}
-
-/// Takes a change in, owned, behind those that are there.
-pub(crate) fn grow<C: ReadChange>(
-    alloc: Global,
-    gathered: &mut Gathered,
-    hash: Hash,
-    change: &C,
-) -> Result<(), AllocError>
-    requires fine { Fine (C.change change.now) }
-    requires joins { Joins gathered.old (record { hash = hash; change = C.change change.now }) }
-    ensures ok { OnOk result (gathered.new ≡ gathered.old ++ record { hash = hash; change = C.change change.now } ∷ []) }
-{
-    let owned = owned(alloc, &mut gathered.actors, change)?;
-    gather(alloc, gathered, hash, owned)
 }

@@ -1,41 +1,82 @@
-//! The changes that joined so far.
-ghost use Rattle.am_types.specs.declared.Hash.{Hash};
-ghost use Rattle.am_types.specs.declared.Change.{Change};
-ghost use Rattle.am_types.specs.Members.{Member, changes, heads};
+//! How a change joins those that are gathered, and what is asked of them on the way.
+ghost use Rattle.std.specs.Prelude.{◌≡◌, ◌<◌, [], IfOk, length};
+ghost use Rattle.am_types.specs.Members.{changes, heads};
 ghost use Rattle.am_types.specs.Operations.{all_operations};
+ghost use Rattle.am_change.specs.Hashes.{own_hash};
 ghost use Rattle.am_histories.specs.Rebuilt.{hash_at, last_max};
 ghost use Rattle.am_rebuild.specs.Joined.{member_of, Joined};
-ghost use Rattle.std.specs.Prelude.{◌≡◌, ◌<◌, List, length, IfOk};
 
+use crate::gathered::{Gathered, grow, may_join};
+use crate::lasts::last_in;
 use crate::lent_change::LentChange;
+use am_change::{hash_of, is_fine};
+use am_fits::OpIndex;
+use am_graph::Graph;
 use am_types::{Hash, List};
+use indexmap::IndexMap;
 use std::alloc::{AllocError, Global};
 
-/// Members that joined so far.
-pub trait Joining {
-    ghost members: { Self → List Member };
+impl<'a> Gathered<'a> {
+    /// No changes.
+    pub(crate) fn new(alloc: Global) -> Gathered<'a>
+        ensures { result ≡ [] }
+    {
+        Gathered {
+            entries: Vec::new(alloc),
+            graph: Graph::new(alloc),
+            index: OpIndex::new(alloc),
+            lasts: IndexMap::new(alloc),
+        }
+    }
 
-    ghost hash_of: { Change → Hash };
+    /// How many have joined.
+    pub(crate) fn count(&self) -> u64
+        ensures { result ≡ length self.now }
+    {
+        self.entries.len() as u64
+    }
 
-    fn count(&self) -> u64
-        ensures { result ≡ length (members self.now) };
+    /// The hash of the one at this place.
+    pub(crate) fn hash_at(&self, place: u64) -> Hash
+        requires { place < length self.now }
+        ensures { result ≡ hash_at self.now place }
+    {
+        self.entries[place as usize].0
+    }
 
-    fn hash_at(&self, place: u64) -> Hash
-        requires { place < length (members self.now) }
-        ensures { result ≡ hash_at (members self.now) place };
-
-    fn last_max(&self, actor: &[u8]) -> u64
-        ensures { result ≡ last_max (members self.now) actor.now };
+    /// The greatest counter of the actor's operations, or 0.
+    pub(crate) fn last_max(&self, actor: &[u8]) -> u64
+        ensures { result ≡ last_max self.now actor.now }
+    {
+        last_in(&self.lasts, actor)
+    }
 
     /// Takes the change in where it joins.
-    fn join(&mut self, alloc: Global, change: &LentChange<'_>) -> Result<bool, AllocError>
-        ensures { IfOk result (Joined (members self.old) (member_of hash_of change.now) (members self.new)) };
+    pub(crate) fn join(&mut self, alloc: Global, change: LentChange<'a>) -> Result<bool, AllocError>
+        ensures { IfOk result (Joined self.old (member_of own_hash change.entry) self.new) }
+    {
+        if !is_fine(&change) {
+            return Ok(false);
+        }
+        let hash = hash_of(alloc, &change)?;
+        if !may_join(alloc, &self.graph, &self.index, &hash, &change)? {
+            return Ok(false);
+        }
+        grow(alloc, self, hash, change)?;
+        Ok(true)
+    }
 
     /// How many operations they have.
-    fn operation_count(&self) -> u64
-        ensures { result ≡ length (all_operations (changes (members self.now))) };
+    pub(crate) fn operation_count(&self) -> u64
+        ensures { result ≡ length (all_operations (changes self.now)) }
+    {
+        self.index.totals().operations
+    }
 
     /// The hashes on which no change depends, ascending.
-    fn heads(&self, alloc: Global) -> Result<List<Hash>, AllocError>
-        ensures { IfOk result (λ found. found ≡ heads (members self.now)) };
+    pub(crate) fn heads(&self, alloc: Global) -> Result<List<Hash>, AllocError>
+        ensures { IfOk result (λ found. found ≡ heads self.now) }
+    {
+        self.graph.heads(alloc)
+    }
 }

@@ -1,23 +1,24 @@
 //! What is found of a table: its one history with its heads, its history with other heads, or none.
 ghost use Rattle.std.specs.Prelude.{◌≡◌, ◌<◌, ◌^◌, ◌↔◌, ℕ, List, [], All, IsTrue, IfOk, Option, None};
 ghost use Rattle.am_types.specs.Order.{bytes_cmp, hash_cmp, among, Ascends};
+ghost use Rattle.am_change.specs.Hashes.{own_hash};
 ghost use Rattle.am_histories.specs.Laws.{table_actors};
 ghost use Rattle.am_rebuild.specs.Judged.{first_apart, IsJudged};
 ghost use Rattle.am_rebuild.specs.Lending.{table_of};
 
 use crate::building::build_from;
-use crate::joining::Joining;
-use crate::lent::{LentRow, lend_rows};
+use crate::gathered::Gathered;
+use crate::lent::LentRow;
 use crate::mention::sorted_mentions;
 use crate::names::names_in;
 use crate::telling::ids_told;
-use am_types::{ActorId, Hash, Meta, Table, compare_actors};
+use am_types::{ActorId, Hash, Meta, compare_actors};
 use std::alloc::{AllocError, Global};
 use std::cmp::Ordering;
 
 /// What is found of a table.
 #[derive(Clone, Copy, Debug)]
-pub enum Judgement {
+pub(crate) enum Judgement {
     /// The changes that joined are its history, and their heads are the stated ones.
     Whole,
     /// The changes that joined are its history, and this is the least hash that only one of the two lists of heads has.
@@ -67,24 +68,24 @@ fn first_apart(a: &[Hash], b: &[Hash]) -> Option<Hash>
 
 /// A table whose rows are lent.
 #[derive(Clone, Copy)]
-pub struct LentTable<'a> {
+pub(crate) struct LentTable<'a> {
     pub actors: &'a [ActorId],
     pub heads: &'a [Hash],
     pub metas: &'a [Meta],
     pub rows: &'a [LentRow<'a>],
 }
 
-/// Rebuilds the changes of a table whose rows are lent, and judges it, wherever it has its heads.
-pub(crate) fn judge_lent<J: Joining>(
+/// Rebuilds the changes of a table whose rows are lent, and judges it.
+pub(crate) fn judge_lent<'a>(
     alloc: Global,
-    joining: &mut J,
-    table: LentTable<'_>,
+    gathered: &mut Gathered<'a>,
+    table: LentTable<'a>,
 ) -> Result<Judgement, AllocError>
-    requires empty { J.members joining.old ≡ [] }
+    requires empty { gathered.old ≡ [] }
     requires maxes { All (λ m. m.max < 2 ^ 53) table.metas.now }
     requires heads { Ascends hash_cmp table.heads.now }
-    requires actors { All (λ a. IsTrue (among bytes_cmp table.actors.now a)) (table_actors (table_of table None)) }
-    ensures { IfOk result (λ j. (suffix : Option (List ℕ)) → IsJudged J.hash_of (table_of table.entry suffix) (J.members joining.new) j) }
+    requires actors { All (λ a. IsTrue (among bytes_cmp table.actors.now a)) (table_actors (table_of table)) }
+    ensures { IfOk result (IsJudged own_hash (table_of table.entry) gathered.new) }
 {
     if !actors_ascend(table.actors) {
         return Ok(Judgement::NoHistory);
@@ -95,38 +96,15 @@ pub(crate) fn judge_lent<J: Joining>(
     let Some(ids) = told else {
         return Ok(Judgement::NoHistory);
     };
-    if !build_from(alloc, joining, &names, all, table.metas)? {
+    if !build_from(alloc, gathered, &names, all, table.metas)? {
         return Ok(Judgement::NoHistory);
     }
-    if ids != joining.operation_count() {
+    if ids != gathered.operation_count() {
         return Ok(Judgement::NoHistory);
     }
-    let heads = joining.heads(alloc)?;
+    let heads = gathered.heads(alloc)?;
     match first_apart(heads.as_slice(), table.heads) {
         None => Ok(Judgement::Whole),
         Some(hash) => Ok(Judgement::OtherHeads(hash)),
     }
-}
-
-/// Rebuilds the changes of a table, and judges it.
-pub fn judge<J: Joining>(
-    alloc: Global,
-    joining: &mut J,
-    table: &Table,
-) -> Result<Judgement, AllocError>
-    requires empty { J.members joining.old ≡ [] }
-    requires maxes { All (λ m. m.max < 2 ^ 53) table.now.metas }
-    requires heads { Ascends hash_cmp table.now.heads }
-    requires actors { All (λ a. IsTrue (among bytes_cmp table.now.actors a)) (table_actors table.now) }
-    ensures { IfOk result (IsJudged J.hash_of table.now (J.members joining.new)) }
-{
-    let rows = lend_rows(alloc, table.rows.as_slice())?;
-    let lent = LentTable {
-        actors: table.actors.as_slice(),
-        heads: table.heads.as_slice(),
-        metas: table.metas.as_slice(),
-        rows: &rows,
-    };
-    let judgement = judge_lent(alloc, joining, lent)?;
-    Ok(judgement)
 }

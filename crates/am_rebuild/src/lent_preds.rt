@@ -4,14 +4,23 @@ ghost use Rattle.am_types.specs.declared.OpId.{OpId as AnId};
 ghost use Rattle.am_types.specs.Views.{id_of};
 
 use am_types::IdRef;
-use std::alloc::Global;
 use std::marker::Model;
+
+/// Ids that are lent. Most operations have one predecessor at most.
+#[derive(Drop)]
+pub enum Ids<'a> {
+    /// There are none.
+    None,
+    /// This one alone.
+    One(IdRef<'a>),
+    /// These, in this order.
+    Many(Vec<IdRef<'a>>),
+}
 
 /// Predecessors that are lent. One alone takes no memory. Contracts see the list of them.
 #[derive(Drop)]
 pub struct LentPreds<'a> {
-    first: Option<IdRef<'a>>,
-    more: Vec<IdRef<'a>>,
+    ids: Ids<'a>,
 }
 
 impl<'a> Model for LentPreds<'a> {
@@ -25,23 +34,26 @@ impl<'a> Model for LentPreds<'a> {
 }
 
 impl<'a> LentPreds<'a> {
-    /// None.
-    pub(crate) fn none(alloc: Global) -> Self
+    /// Those of an operation that has none.
+    pub(crate) fn none() -> Self
         ensures { result ≡ [] }
     {
-        LentPreds {
-            first: None,
-            more: Vec::new(alloc),
-        }
+        LentPreds { ids: Ids::None }
     }
 
-    /// One.
-    pub(crate) fn one(alloc: Global, id: IdRef<'a>) -> Self
+    /// This one alone.
+    pub(crate) fn one(id: IdRef<'a>) -> Self
         ensures { result ≡ id_of id.entry ∷ [] }
     {
+        LentPreds { ids: Ids::One(id) }
+    }
+
+    /// These, in this order.
+    pub(crate) fn many(ids: Vec<IdRef<'a>>) -> Self
+        ensures { result ≡ map id_of ids.entry.items }
+    {
         LentPreds {
-            first: Some(id),
-            more: Vec::new(alloc),
+            ids: Ids::Many(ids),
         }
     }
 
@@ -49,36 +61,22 @@ impl<'a> LentPreds<'a> {
     pub(crate) fn count(&self) -> usize
         ensures { result ≡ length self.now }
     {
-        match self.first {
-            None => self.more.len(),
-            // a list of ids in memory is far shorter
-            Some(_) => self.more.len().saturating_add(1),
+        match &self.ids {
+            Ids::None => 0,
+            Ids::One(_) => 1,
+            Ids::Many(ids) => ids.len(),
         }
     }
 
-    /// One of them.
+    /// The one at this place.
     pub(crate) fn at(&self, i: usize) -> IdRef<'a>
         requires { i < length self.now }
         ensures { (d : AnId) → id_of result ≡ slice_index_or self.now i d }
     {
-        match self.first {
-            None => self.more[i],
-            Some(id) => {
-                if i == 0 {
-                    return id;
-                }
-                self.more[i - 1]
-            }
-        }
-    }
-
-    /// These.
-    pub(crate) fn many(ids: Vec<IdRef<'a>>) -> Self
-        ensures { result ≡ map id_of ids.entry.items }
-    {
-        LentPreds {
-            first: None,
-            more: ids,
+        match &self.ids {
+            Ids::None => unreachable!(),
+            Ids::One(id) => *id,
+            Ids::Many(ids) => ids[i],
         }
     }
 }

@@ -21,14 +21,9 @@ mod names;
 mod order;
 mod owned;
 mod path;
-mod rebuilding;
 mod rebuilt;
 mod telling;
 
 pub use document::{rebuild, rebuild_whole};
 pub use fault::RebuildFault;
-pub use gathered::Gathered;
-pub use joining::Joining;
-pub use judgement::{Judgement, judge};
-pub use order::rows_in_order;
 pub use rebuilt::Rebuilt;

@@ -6,9 +6,9 @@ ghost use Rattle.am_histories.specs.RowOrder.{slot_may_come, may_open, by_object
 ghost use Rattle.am_histories.specs.OnePass.{moved, path_into, one_pass};
 ghost use Rattle.am_rebuild.specs.Stops.{path_of};
 
-use crate::lent::{LentRow, lend_rows};
+use crate::lent::LentRow;
 use crate::path::{StopRef, go_back, is_going, put, restart};
-use am_types::{KeyRef, Row, compare_ids, compare_objects, same_key};
+use am_types::{KeyRef, compare_ids, compare_objects, same_key};
 use std::alloc::{AllocError, Global};
 use std::cmp::Ordering;
 
@@ -116,12 +116,4 @@ pub(crate) fn lent_in_order(alloc: Global, rows: &[LentRow<'_>]) -> Result<bool,
         last = row;
     }
     Ok(is_going(&stack))
-}
-
-/// Whether the rows are in document order.
-pub fn rows_in_order(alloc: Global, rows: &[Row]) -> Result<bool, AllocError>
-    ensures { IfOk result (λ told. told ≡ one_pass rows.now) }
-{
-    let lent = lend_rows(alloc, rows)?;
-    lent_in_order(alloc, &lent)
 }

@@ -1,9 +1,10 @@
-//! Changes that are owned, of those that can be read.
+//! Changes that are owned, of those that can be read. All is generic, so that a proof sees the change that is read and nothing of
+//! what lends it.
 ghost use Rattle.std.specs.Prelude.{◌≡◌, All, IfOk, map};
 ghost use Rattle.am_types.specs.Fine.{Fine, FineOp, IsId};
 
-use crate::copying::{bytes_in, id_in, key_in, mark_in, object_in, text_in, value_in};
-use am_types::{Change, Hash, List, Op, OpId, ReadChange, ReadOp, SharedActors, Twin};
+use crate::copying::{id_in, key_in, mark_in, object_in, value_in};
+use am_types::{Bytes, Change, Hash, List, Op, OpId, ReadChange, ReadOp, SharedActors, Text, Twin};
 use std::alloc::{AllocError, Global};
 
 // The predecessors.
@@ -78,8 +79,8 @@ pub(crate) fn owned<C: ReadChange>(
         seq: change.seq(),
         start: change.start(),
         time: change.time(),
-        message: text_in(alloc, change.message())?,
+        message: Text::copy_of(alloc, change.message())?,
         ops: ops_owned(alloc, known, change.ops())?,
-        extra: bytes_in(alloc, change.extra())?,
+        extra: Bytes::copy_of(alloc, change.extra())?,
     })
 }

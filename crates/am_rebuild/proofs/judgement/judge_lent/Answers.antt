@@ -1,5 +1,6 @@
-use Rattle.std.proofs.Common.{None, sym, ap, ◌∙◌, refl, subst, All, Contains}
+use Rattle.std.proofs.Common.{sym, ap, ◌∙◌, refl, subst, All, Contains}
 use Rattle.am_types.specs.declared.Meta.{Meta}
+use Rattle.am_change.specs.Hashes.{own_hash}
 use Rattle.am_rebuild.specs.Lending.{table_of}
 use Rattle.am_rebuild.specs.Mentions.{ArePlaced}
 use Rattle.am_rebuild.specs.Names.{names_of, mentioned_actors, AreNames}
@@ -10,40 +11,40 @@ use Rattle.am_rebuild.proofs.Judging.{untold, unbuilt, built, other, the_history
 use Rattle.am_rebuild.proofs.judgement.judge_lent.Goals as goal
 
 pub sorted_mentions-requires : goal.sorted_mentions-requires
-sorted_mentions-requires g c =
+sorted_mentions-requires c =
     let names = ap names_of c.deref.ensures.value ∙ c.in_ok-names.ensures in
-    subst (AreNames (mentioned_actors c.args.table.rows.now)) (sym names) (table_names (table_of c.args.table None) (c.actors_ascend.ensures.0 c.if-not-actors_ascend.false) c.requires.actors)
+    subst (AreNames (mentioned_actors c.args.table.rows.now)) (sym names) (table_names (table_of c.args.table) (c.actors_ascend.ensures.0 c.if-not-actors_ascend.false) c.requires.actors)
 
 pub build_from-requires-clause-placed : goal.build_from-requires-clause-placed
-build_from-requires-clause-placed g c = subst (λ n. ArePlaced (names_of n) c.in_ok-all.all.items) (c.deref.ensures.value ∙ sym c.deref-3.ensures.value) c.in_ok-all.ensures.placed
+build_from-requires-clause-placed c = subst (λ n. ArePlaced (names_of n) c.in_ok-all.all.items) (c.deref.ensures.value ∙ sym c.deref-3.ensures.value) c.in_ok-all.ensures.placed
 
 pub build_from-requires-clause-named : goal.build_from-requires-clause-named
-build_from-requires-clause-named g c =
+build_from-requires-clause-named c =
     let names = ap names_of c.deref-3.ensures.value ∙ c.in_ok-names.ensures in
-    subst (λ n. All (λ (m : Meta). Contains n m.actor) c.args.table.metas.now) (sym names) (author_names (table_of c.args.table None) c.requires.actors)
+    subst (λ n. All (λ (m : Meta). Contains n m.actor) c.args.table.metas.now) (sym names) (author_names (table_of c.args.table) c.requires.actors)
 
 pub returns-in_default : goal.returns-in_default
-returns-in_default g c = λ suffix. untold g.J.Joining.hash_of (table_of c.args.table suffix) (subst (TellsIds c.args.table.rows.now) c.in_default.is c.in_ok-told.ensures)
+returns-in_default c = untold own_hash (table_of c.args.table) (subst (TellsIds c.args.table.rows.now) c.in_default.is c.in_ok-told.ensures)
 
 pub returns-then-not-branch : goal.returns-then-not-branch
-returns-then-not-branch g c = λ suffix.
-    let t = table_of c.args.table suffix in
-    unbuilt g.J.Joining.hash_of t (g.J.Joining.members c.build_from.new.joining) c.in_ok-build_from.field-0 (c.in_ok-build_from.ensures t c.in_ok-all.ensures.are refl) c.if-not-branch.true
+returns-then-not-branch c =
+    let t = table_of c.args.table in
+    unbuilt own_hash t c.build_from.new.gathered c.in_ok-build_from.field-0 (c.in_ok-build_from.ensures t c.in_ok-all.ensures.are refl) c.if-not-branch.true
 
 pub returns-then-ids-operation_count : goal.returns-then-ids-operation_count
-returns-then-ids-operation_count g c = λ suffix.
-    let t = table_of c.args.table suffix in
-    let R = g.J.Joining.members c.build_from.new.joining in
+returns-then-ids-operation_count c =
+    let t = table_of c.args.table in
+    let R = c.build_from.new.gathered in
     let told = subst (TellsIds c.args.table.rows.now) c.in-Some.is c.in_ok-told.ensures in
-    other g.J.Joining.hash_of t R (built g.J.Joining.hash_of t R c.in_ok-build_from.field-0 (c.in_ok-build_from.ensures t c.in_ok-all.ensures.are refl) c.if-not-branch.false)
+    other own_hash t R (built own_hash t R c.in_ok-build_from.field-0 (c.in_ok-build_from.ensures t c.in_ok-all.ensures.are refl) c.if-not-branch.false)
     (λ h. c.if-ids-operation_count.true ((told _).1 h ∙ sym c.operation_count.ensures))
 
 pub returns-in-None : goal.returns-in-None
-returns-in-None g c = λ suffix.
-    let t = table_of c.args.table suffix in
-    let R = g.J.Joining.members c.build_from.new.joining in
+returns-in-None c =
+    let t = table_of c.args.table in
+    let R = c.build_from.new.gathered in
     let told = subst (TellsIds c.args.table.rows.now) c.in-Some.is c.in_ok-told.ensures in (
-      the_history g.J.Joining.hash_of t R (built g.J.Joining.hash_of t R c.in_ok-build_from.field-0 (c.in_ok-build_from.ensures t c.in_ok-all.ensures.are refl) c.if-not-branch.false)
+      the_history own_hash t R (built own_hash t R c.in_ok-build_from.field-0 (c.in_ok-build_from.ensures t c.in_ok-all.ensures.are refl) c.if-not-branch.false)
           ((told _).0 (c.if-ids-operation_count.false ∙ c.operation_count.ensures))
           (c.actors_ascend.ensures.0 c.if-not-actors_ascend.false)
           c.requires.actors,
@@ -51,12 +52,12 @@ returns-in-None g c = λ suffix.
     )
 
 pub returns : goal.returns
-returns g c = λ suffix.
-    let t = table_of c.args.table suffix in
-    let R = g.J.Joining.members c.build_from.new.joining in
+returns c =
+    let t = table_of c.args.table in
+    let R = c.build_from.new.gathered in
     let told = subst (TellsIds c.args.table.rows.now) c.in-Some.is c.in_ok-told.ensures in
     let h =
-    the_history g.J.Joining.hash_of t R (built g.J.Joining.hash_of t R c.in_ok-build_from.field-0 (c.in_ok-build_from.ensures t c.in_ok-all.ensures.are refl) c.if-not-branch.false)
+    the_history own_hash t R (built own_hash t R c.in_ok-build_from.field-0 (c.in_ok-build_from.ensures t c.in_ok-all.ensures.are refl) c.if-not-branch.false)
     ((told _).0 (c.if-ids-operation_count.false ∙ c.operation_count.ensures))
     (c.actors_ascend.ensures.0 c.if-not-actors_ascend.false)
     c.requires.actors in (

@@ -5,7 +5,7 @@ use Rattle.am_fits.specs.declared.totals.Totals.{Totals}
 use Rattle.am_fits.specs.Indexes.{Indexed}
 use Rattle.am_delivery.specs.Waiting.{members_of}
 use Rattle.am_rebuild.proofs.Entries.{operation_count}
-use Rattle.am_rebuild.proofs.rebuilding.GatheredJoining.operation_count.Goals as goal
+use Rattle.am_rebuild.proofs.gathered.Gathered.operation_count.Goals as goal
 
 pub returns : goal.returns
 returns c =

@@ -6,7 +6,7 @@ use Rattle.am_types.specs.Members.{Member}
 use Rattle.am_delivery.specs.Waiting.{member_of}
 use Rattle.am_histories.specs.Rebuilt.{hash_at}
 use Rattle.am_rebuild.proofs.Entries.{hash_there}
-use Rattle.am_rebuild.proofs.rebuilding.GatheredJoining.hash_at.Goals as goal
+use Rattle.am_rebuild.proofs.gathered.Gathered.hash_at.Goals as goal
 
 pub returns : goal.returns
 returns c =
