@@ -46,7 +46,7 @@ pub mod Unnamed
 pub mod Carried
 pub mod RowsText
 pub mod Fronts
-pub mod Stretched
+pub mod Bucketed
 pub mod Linked
-pub mod Counted
+pub mod HasCounter
 pub mod Starting

@@ -15,5 +15,5 @@ pub mod Laws
 pub mod Grown
 pub mod Growing
 pub mod Fronts
-pub mod Stretches
+pub mod Buckets
 pub mod Starts

@@ -6,8 +6,8 @@ ghost use Rattle.am_places.specs.Sound.{HasRoom};
 ghost use Rattle.am_merge.specs.Walk.{beginning, starts};
 ghost use Rattle.am_merge.specs.Stacks.{stacked};
 
+use crate::buckets::{HasCounter, sort_by_counter};
 use crate::starts::{Start, sort_starts};
-use crate::stretches::{Counted, sort_counted};
 use am_places::Numbered;
 use am_types::actions::DELETE;
 use am_types::{Change, Key, compare_ids};
@@ -43,7 +43,7 @@ fn gather<'a>(alloc: Global, changes: &[&'a Change]) -> Result<Vec<Numbered<'a>>
     Ok(all)
 }
 
-impl<'a> Counted for Numbered<'a> {
+impl<'a> HasCounter for Numbered<'a> {
     ghost use Rattle.am_places.specs.Numbered.{by_id};
 
     ghost counter_of = { λ x. x.counter };
@@ -63,7 +63,7 @@ impl<'a> Counted for Numbered<'a> {
 fn sort_operations(all: &mut Vec<Numbered<'_>>) -> Result<(), AllocError>
     ensures { OnOk result (map operation_of all.new.items ≡ ascending (map operation_of all.old.items)) }
 {
-    sort_counted(all)?;
+    sort_by_counter(all)?;
     Ok(())
 }
 

@@ -3,6 +3,7 @@
 
 mod actors;
 mod added;
+mod buckets;
 mod carry;
 mod counters;
 mod documents;
@@ -18,7 +19,6 @@ mod rows;
 mod spot;
 mod starts;
 mod stops;
-mod stretches;
 mod suffix;
 mod walk;
 

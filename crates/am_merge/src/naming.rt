@@ -9,8 +9,8 @@ ghost use Rattle.am_merge.specs.Naming.{IsSeam, Named, is_named, key_cmp, named_
 ghost use Rattle.am_merge.specs.Walk.{gives_value, hanging, inserts};
 ghost use Rattle.am_merge.specs.declared.naming.Naming.{Naming as ANaming};
 
+use crate::buckets::{HasCounter, sort_by_counter};
 use crate::guide::Guide;
-use crate::stretches::{Counted, sort_counted};
 use am_places::Numbered;
 use am_types::actions::DELETE;
 use am_types::{IdRef, Key, ObjRef, compare_actors, compare_objects};
@@ -163,7 +163,7 @@ fn compare_named(n: &Naming<'_>, obj: ObjRef<'_>, id: IdRef<'_>) -> Ordering
     }
 }
 
-impl<'a> Counted for Naming<'a> {
+impl<'a> HasCounter for Naming<'a> {
     ghost use Rattle.am_merge.specs.Naming.{named_cmp, named_of};
 
     ghost counter_of = { λ n. n.id.counter };
@@ -183,7 +183,7 @@ impl<'a> Counted for Naming<'a> {
 pub fn sort_namings(all: &mut Vec<Naming<'_>>) -> Result<(), AllocError>
     ensures { OnOk result (map named_of all.new.items ≡ sorted_by named_cmp (map named_of all.old.items)) }
 {
-    sort_counted(all)?;
+    sort_by_counter(all)?;
     Ok(())
 }
 
