@@ -80,6 +80,30 @@ fn taken(rt: HostRuntime) -> Result<(), AllocError> {
 }
 
 #[test]
+fn pushed_next(rt: HostRuntime) -> Result<(), AllocError> {
+    // a literal run whose first number is left out, how many of the others come behind 1 and 2 at once, and what is
+    // written then
+    let table: &[(&[u8], u64, &[u8])] = &[
+        (&[0x7c, 9, 2, 3, 4], 0, &[0x7e, 1, 2]),
+        (&[0x7c, 9, 3, 4, 4], 2, &[0x7c, 1, 2, 3, 4]),
+        (&[0x7c, 9, 3, 4, 5], 3, &[0x7b, 1, 2, 3, 4, 5]),
+    ];
+    for &(bytes, count, wanted) in table {
+        let mut writer = RunWriter::<SignedItem>::new(rt.alloc());
+        assert!(rt; SignedItem::end(&[1]) == Some(1));
+        writer.push(Some(&[1]))?;
+        assert!(rt; SignedItem::end(&[2]) == Some(1));
+        writer.push(Some(&[2]))?;
+        if let Ok(mut from) = SignedCursor::over(bytes, 4) {
+            from.skip(1);
+            assert!(rt; writer.push_next(&from, 3)? == count);
+        }
+        assert!(rt; writer.finish()?.as_slice() == wanted);
+    }
+    Ok(())
+}
+
+#[test]
 fn numbers_alike(rt: HostRuntime) {
     let mut numbers = UnsignedCursor::over(&[3, 5, 0x7f, 1], 4).expect(
         &rt,

@@ -261,5 +261,18 @@ fn takes_over_what_is_owned(rt: HostRuntime) -> Result<(), Fail> {
     assert!(rt; (three.len(), word.len()) == (3, 4));
     assert!(rt; three == Bytes::copy_of(alloc, &[1, 2, 3])?);
     assert!(rt; word == Text::copy_of(alloc, "word")?);
+    assert!(rt; format!(in alloc; "{:?}", word)?.as_str() == "Text { text: \"word\" }");
+    Ok(())
+}
+
+#[test]
+fn more_bytes_than_lie_inside(rt: HostRuntime) -> Result<(), Fail> {
+    let alloc = rt.alloc();
+    let seventeen: [u8; 17] = [1, 2, 3, 4, 5, 6, 7, 8, 9, 10, 11, 12, 13, 14, 15, 16, 17];
+    let mut grown = Bytes::copy_of(alloc, &seventeen[..16])?;
+    assert!(rt; grown.as_slice() == &seventeen[..16]);
+    grown.push_slice(&seventeen[16..])?;
+    assert!(rt; grown.as_slice() == &seventeen[..]);
+    assert!(rt; Bytes::copy_of(alloc, &seventeen)?.as_slice() == &seventeen[..]);
     Ok(())
 }
