@@ -4,6 +4,7 @@ pub mod Metas
 pub mod Lent
 pub mod Conditions
 pub mod Back
+pub mod Texts
 pub mod Writing
 pub mod Front
 pub mod MetaWriting

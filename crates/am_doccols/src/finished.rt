@@ -1,14 +1,76 @@
 //! The columns of rows that were written.
-ghost use Rattle.std.specs.Prelude.{◌≡◌, ℕ, List, IfOk};
+ghost use Rattle.std.specs.Prelude.{◌≡◌, ℕ, List, IfOk, IfSome, OnOk};
+ghost use Rattle.am_types.specs.declared.OpId.{OpId};
 ghost use Rattle.am_types.specs.declared.Row.{Row};
-ghost use Rattle.am_fields.specs.Columns.{spellings};
-ghost use Rattle.am_doccols.specs.Columns.{row_columns};
+ghost use Rattle.am_fields.specs.Columns.{numbers_bytes, spellings};
+ghost use Rattle.am_fields.specs.Held.{IdsFit, IdsHeld, IdsSpelled};
 ghost use Rattle.am_fields.specs.Rooms.{IsShort, AreShort};
+ghost use Rattle.am_doccols.specs.Columns.{row_columns};
+ghost use Rattle.am_doccols.specs.Texts.{row_texts};
 ghost use Rattle.am_doccols.specs.Writing.{RowsHeld};
 
-use am_fields::{FieldWriter, IdWriter, NumberWriter, specifications};
+use am_fields::{FieldText, FieldWriter, IdWriter, NumberWriter, finish_items, specifications};
 use am_types::Bytes;
 use std::alloc::{AllocError, Global};
+
+// The bytes of all columns.
+#[derive(Drop)]
+pub struct RowText {
+    pub fields: FieldText,
+    pub id_places: Bytes,
+    pub id_counters: Bytes,
+    pub lengths: Bytes,
+    pub succ_places: Bytes,
+    pub succ_counters: Bytes,
+}
+
+// Finishes the columns of ids and of successors into their places.
+fn fill(
+    alloc: Global,
+    ids: &mut IdWriter,
+    lengths: &mut NumberWriter,
+    succs: &mut IdWriter,
+    text: &mut RowText,
+) -> Result<(), AllocError>
+    requires ids { IsShort ids.old.places }
+    requires lengths { IsShort lengths.old }
+    requires succs { IsShort succs.old.places }
+    ensures fields { text.new.fields ≡ text.old.fields }
+    ensures ids { OnOk result ((actors : List (List ℕ)) (list : List OpId) → IdsHeld actors list ids.old → IdsFit list → IdsSpelled actors list text.new.id_places text.new.id_counters) }
+    ensures lengths { OnOk result (IfSome lengths.old (λ items. text.new.lengths ≡ numbers_bytes items)) }
+    ensures succs { OnOk result ((actors : List (List ℕ)) (list : List OpId) → IdsHeld actors list succs.old → IdsFit list → IdsSpelled actors list text.new.succ_places text.new.succ_counters) }
+{
+    ids.finish(alloc, &mut text.id_places, &mut text.id_counters)?;
+    finish_items(alloc, lengths, &mut text.lengths)?;
+    succs.finish(alloc, &mut text.succ_places, &mut text.succ_counters)?;
+    Ok(())
+}
+
+// The columns, one after another.
+fn listed(alloc: Global, text: RowText) -> Result<Vec<(u64, Bytes)>, AllocError>
+    ensures { IfOk result (λ columns. columns.items ≡ row_texts text) }
+{
+    let fields = text.fields;
+    let columns = vec![in alloc;
+        (specifications::OBJECT_ACTOR, fields.object_actor),
+        (specifications::OBJECT_COUNTER, fields.object_counter),
+        (specifications::KEY_ACTOR, fields.key_actor),
+        (specifications::KEY_COUNTER, fields.key_counter),
+        (specifications::KEY_NAME, fields.key_name),
+        (specifications::ID_ACTOR, text.id_places),
+        (specifications::ID_COUNTER, text.id_counters),
+        (specifications::INSERT, fields.insert),
+        (specifications::ACTION, fields.action),
+        (specifications::VALUE_METADATA, fields.numbers),
+        (specifications::VALUE_RAW, fields.raw),
+        (specifications::SUCC_COUNT, text.lengths),
+        (specifications::SUCC_ACTOR, text.succ_places),
+        (specifications::SUCC_COUNTER, text.succ_counters),
+        (specifications::EXPAND, fields.expand),
+        (specifications::MARK, fields.mark),
+    ]?;
+    Ok(columns)
+}
 
 // The columns of rows, one after another.
 pub fn columns_in(
@@ -24,28 +86,18 @@ pub fn columns_in(
     requires succs { IsShort succs.places }
     ensures { IfOk result (λ columns. (actors : List (List ℕ)) (rows : List Row) → RowsHeld actors rows fields ids lengths succs → columns.items ≡ spellings actors (row_columns rows)) }
 {
-    let fields = fields.finish()?;
-    let (id_places, id_counters) = ids.finish()?;
-    let lengths = lengths.finish()?;
-    let (succ_places, succ_counters) = succs.finish()?;
-    // (at once, so that no column is let go between two others)
-    let columns = vec![in alloc;
-        (specifications::OBJECT_ACTOR, fields.object_actor),
-        (specifications::OBJECT_COUNTER, fields.object_counter),
-        (specifications::KEY_ACTOR, fields.key_actor),
-        (specifications::KEY_COUNTER, fields.key_counter),
-        (specifications::KEY_NAME, fields.key_name),
-        (specifications::ID_ACTOR, id_places),
-        (specifications::ID_COUNTER, id_counters),
-        (specifications::INSERT, fields.insert),
-        (specifications::ACTION, fields.action),
-        (specifications::VALUE_METADATA, fields.numbers),
-        (specifications::VALUE_RAW, fields.raw),
-        (specifications::SUCC_COUNT, lengths),
-        (specifications::SUCC_ACTOR, succ_places),
-        (specifications::SUCC_COUNTER, succ_counters),
-        (specifications::EXPAND, fields.expand),
-        (specifications::MARK, fields.mark),
-    ]?;
+    let mut ids = ids;
+    let mut lengths = lengths;
+    let mut succs = succs;
+    let mut text = RowText {
+        fields: fields.finish(alloc)?,
+        id_places: Bytes::new(alloc),
+        id_counters: Bytes::new(alloc),
+        lengths: Bytes::new(alloc),
+        succ_places: Bytes::new(alloc),
+        succ_counters: Bytes::new(alloc),
+    };
+    fill(alloc, &mut ids, &mut lengths, &mut succs, &mut text)?;
+    let columns = listed(alloc, text)?;
     Ok(columns)
 }

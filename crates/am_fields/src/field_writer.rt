@@ -1,6 +1,7 @@
 //! Writing the fields that operations and rows have in common.
 
 use crate::field_columns::FieldColumns;
+use crate::finishing::{finish_deltas, finish_items, finish_maybe, finish_plain, finish_values};
 use crate::listed::ListedActors;
 use crate::number_writer::NumberWriter;
 use crate::places::{key_counter, key_name, key_place, object_counter, object_place};
@@ -56,6 +57,25 @@ pub struct FieldText {
     pub raw: Bytes,
     pub expand: Bytes,
     pub mark: Bytes,
+}
+
+impl FieldText {
+    // No bytes, each column still to come.
+    fn new(alloc: Global) -> Self {
+        FieldText {
+            object_actor: Bytes::new(alloc),
+            object_counter: Bytes::new(alloc),
+            key_actor: Bytes::new(alloc),
+            key_counter: Bytes::new(alloc),
+            key_name: Bytes::new(alloc),
+            insert: Bytes::new(alloc),
+            action: Bytes::new(alloc),
+            numbers: Bytes::new(alloc),
+            raw: Bytes::new(alloc),
+            expand: Bytes::new(alloc),
+            mark: Bytes::new(alloc),
+        }
+    }
 }
 
 impl FieldWriter {
@@ -133,34 +153,33 @@ impl FieldWriter {
         self.mark.take(&mut from.marks, n)
     }
 
+    // Finishes each column into its place.
+    fn fill(&mut self, alloc: Global, text: &mut FieldText) -> Result<(), AllocError>
+        requires { AreShort self.old }
+        ensures { OnOk result ((actors : List (List ℕ)) (x : FieldLists) → FieldsHeld actors x self.old → FieldsFit x → FieldsSpelled actors x text.new) }
+    {
+        finish_items(alloc, &mut self.object_actor, &mut text.object_actor)?;
+        finish_items(alloc, &mut self.object_counter, &mut text.object_counter)?;
+        finish_items(alloc, &mut self.key_actor, &mut text.key_actor)?;
+        finish_deltas(alloc, &mut self.key_counter, &mut text.key_counter)?;
+        finish_items(alloc, &mut self.key_name, &mut text.key_name)?;
+        finish_plain(alloc, &mut self.insert, &mut text.insert)?;
+        finish_items(alloc, &mut self.action, &mut text.action)?;
+        finish_values(alloc, &mut self.value, &mut text.numbers, &mut text.raw)?;
+        finish_maybe(alloc, &mut self.expand, &mut text.expand)?;
+        finish_items(alloc, &mut self.mark, &mut text.mark)?;
+        Ok(())
+    }
+
     /// The columns, each in its one canonical spelling: those of flags that are always listed with runs of both values,
     /// and those that are left out where all are false. An error says that memory was wanted.
-    pub fn finish(self) -> Result<FieldText, AllocError>
+    pub fn finish(self, alloc: Global) -> Result<FieldText, AllocError>
         requires { AreShort self }
         ensures { IfOk result (λ text. (actors : List (List ℕ)) (x : FieldLists) → FieldsHeld actors x self → FieldsFit x → FieldsSpelled actors x text) }
     {
-        let object_actor = self.object_actor.finish()?;
-        let object_counter = self.object_counter.finish()?;
-        let key_actor = self.key_actor.finish()?;
-        let key_counter = self.key_counter.finish()?;
-        let key_name = self.key_name.finish()?;
-        let insert = self.insert.finish_plain()?;
-        let action = self.action.finish()?;
-        let (numbers, raw) = self.value.finish()?;
-        let expand = self.expand.finish_maybe()?;
-        let mark = self.mark.finish()?;
-        Ok(FieldText {
-            object_actor,
-            object_counter,
-            key_actor,
-            key_counter,
-            key_name,
-            insert,
-            action,
-            numbers,
-            raw,
-            expand,
-            mark,
-        })
+        let mut writer = self;
+        let mut text = FieldText::new(alloc);
+        writer.fill(alloc, &mut text)?;
+        Ok(text)
     }
 }

@@ -5,6 +5,7 @@ ghost use Rattle.am_types.specs.Views.{id_of};
 ghost use Rattle.am_fields.specs.Columns.{place_of};
 ghost use Rattle.am_fields.specs.Layout.{id_actor, id_counter};
 
+use crate::finishing::{finish_deltas, finish_items};
 use crate::ids::IdColumns;
 use crate::listed::ListedActors;
 use crate::number_writer::NumberWriter;
@@ -57,7 +58,7 @@ fn push_ids(
 }
 
 impl IdWriter {
-    ghost use Rattle.std.specs.Prelude.{◌≡◌, ◌+◌, ◌≤◌, ◌++◌, ◌∷◌, ◌^◌, [], List, ℕ, All, length, take, drop, IfOk, IfSome, OnOk};
+    ghost use Rattle.std.specs.Prelude.{◌≡◌, ◌+◌, ◌≤◌, ◌++◌, ◌∷◌, ◌^◌, [], List, ℕ, All, length, take, drop, IfSome, OnOk};
     ghost use Rattle.am_types.specs.declared.OpId.{OpId};
     ghost use Rattle.am_types.specs.Fine.{IsId};
     ghost use Rattle.am_types.specs.Views.{id_of};
@@ -111,14 +112,19 @@ impl IdWriter {
         from.copy_to(&mut self.places, &mut self.counters, actors, n)
     }
 
-    /// The column of places and that of counters, each in its one canonical spelling. An error says that memory was
-    /// wanted.
-    pub fn finish(self) -> Result<(Bytes, Bytes), AllocError>
-        requires { IsShort self.places }
-        ensures { IfOk result (λ text. (actors : List (List ℕ)) (ids : List OpId) → IdsHeld actors ids self → IdsFit ids → IdsSpelled actors ids text.0 text.1) }
+    /// The column of places and that of counters, each in its one canonical spelling, into bytes that are there. An error
+    /// says that memory was wanted.
+    pub fn finish(
+        &mut self,
+        alloc: Global,
+        places: &mut Bytes,
+        counters: &mut Bytes,
+    ) -> Result<(), AllocError>
+        requires { IsShort self.old.places }
+        ensures { OnOk result ((actors : List (List ℕ)) (ids : List OpId) → IdsHeld actors ids self.old → IdsFit ids → IdsSpelled actors ids places.new counters.new) }
     {
-        let places = self.places.finish()?;
-        let counters = self.counters.finish()?;
-        Ok((places, counters))
+        finish_items(alloc, &mut self.places, places)?;
+        finish_deltas(alloc, &mut self.counters, counters)?;
+        Ok(())
     }
 }

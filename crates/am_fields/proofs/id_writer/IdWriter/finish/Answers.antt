@@ -6,6 +6,6 @@ use Rattle.am_fields.proofs.id_writer.IdWriter.finish.Goals as goal
 
 pub returns : goal.returns
 returns c actors ids held fit = record {
-  places = numbers_canonical _ _ _ held.places c.in_ok-places.ensures.ok;
-  counters = deltas_canonical _ _ _ held.counters fit.counters (omega (arith, fit.few, length-map ids id_counter)) c.in_ok-counters.ensures.ok;
+  places = numbers_canonical _ _ _ held.places c.in_ok-finish_items.ensures;
+  counters = deltas_canonical _ _ _ held.counters fit.counters (omega (arith, fit.few, length-map ids id_counter)) c.in_ok-finish_deltas.ensures;
 }
