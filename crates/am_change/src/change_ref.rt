@@ -9,7 +9,7 @@ use crate::front::FrontRef;
 use crate::hash_list::HashList;
 use crate::parse::{is_canonical, length_known, opened};
 use am_opcols::OpCursor;
-use am_types::Change;
+use am_types::{Change, SharedActors};
 use std::alloc::{AllocError, Global};
 use std::marker::Model;
 
@@ -139,8 +139,10 @@ impl<'a> ChangeRef<'a> {
     pub fn to_owned(&self, alloc: Global) -> Result<Change, AllocError>
         ensures { IfOk result (λ c. c ≡ self.now) }
     {
+        let mut actors = SharedActors::new(alloc);
         change_in(
             alloc,
+            &mut actors,
             &self.front,
             self.message,
             self.ops.again(),

@@ -175,9 +175,10 @@ fn ops_in(
     Ok(List::from(copy))
 }
 
-// The change of these parts, owned. It needn't be fine.
+// The change of these parts, owned, whose actors share their bytes with those that came before. It needn't be fine.
 pub fn change_in(
     alloc: Global,
+    actors: &mut SharedActors,
     front: &FrontRef<'_>,
     message: &str,
     ops: OpCursor<'_>,
@@ -190,15 +191,14 @@ pub fn change_in(
     requires within { AllByRecursion IsOpWithin ops }
     ensures { IfOk result (λ c. c ≡ change_with (front_of front.now) ops.entry extra.now) }
 {
-    let mut actors = SharedActors::new(alloc);
     Ok(Change {
         deps: hashes_of(alloc, front.hashes, front.count)?,
-        actor: shared_in(alloc, &mut actors, front.actor)?,
+        actor: shared_in(alloc, actors, front.actor)?,
         seq: front.seq,
         start: front.start,
         time: front.time,
         message: text_in(alloc, message)?,
-        ops: ops_in(alloc, &mut actors, ops)?,
+        ops: ops_in(alloc, actors, ops)?,
         extra: bytes_in(alloc, extra)?,
     })
 }

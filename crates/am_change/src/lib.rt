@@ -21,5 +21,5 @@ pub use fine::is_fine;
 pub use hash_list::HashList;
 pub use hashing::{with_hash, with_hashes};
 pub use laws::{contents_tell_changes, one_hash_list, one_judgement};
-pub use parse::parse_change;
+pub use parse::{parse_change, parse_change_sharing};
 pub use write::{chunk_of, contents_of, hash_of};

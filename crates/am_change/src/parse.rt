@@ -20,7 +20,7 @@ use crate::front::FrontRef;
 use am_colmeta::Columns;
 use am_fields::specifications;
 use am_opcols::{OpColumns, OpCursor};
-use am_types::{Change, LONGEST_ACTOR, Op};
+use am_types::{Change, LONGEST_ACTOR, Op, SharedActors};
 use std::alloc::{AllocError, Global};
 use std::str::from_utf8;
 
@@ -127,7 +127,7 @@ fn is_canonical_of(
 
 // The change with these contents. What stands beside its operations is judged first; these are copied before they are
 // judged, so that they are read once.
-fn parsed(alloc: Global, bytes: &[u8]) -> Result<Change, ChangeFault>
+fn parsed(alloc: Global, actors: &mut SharedActors, bytes: &[u8]) -> Result<Change, ChangeFault>
     ensures { Judges bytes.now result }
 {
     length_known(bytes);
@@ -145,7 +145,7 @@ fn parsed(alloc: Global, bytes: &[u8]) -> Result<Change, ChangeFault>
         return Err(ChangeFault::BadChange);
     }
     let ops = behind.ops.again();
-    let Ok(change) = change_in(alloc, &front, behind.message, ops, behind.extra) else {
+    let Ok(change) = change_in(alloc, actors, &front, behind.message, ops, behind.extra) else {
         return Err(ChangeFault::NoMemory);
     };
     if !are_fine_with_values(change.ops.as_slice()) {
@@ -169,5 +169,20 @@ pub fn parse_change(alloc: Global, bytes: &[u8]) -> Result<Change, ChangeFault>
     ensures complete { (c : Change) → Fine c → bytes.now ≡ contents c → (result ≡ Ok c) ⊎ (result ≡ Err ChangeFault.NoMemory) }
 {
     length_known(bytes);
-    parsed(alloc, bytes)
+    let mut actors = SharedActors::new(alloc);
+    parsed(alloc, &mut actors, bytes)
+}
+
+/// The same, where actors share their bytes with those of changes that were read before. So the changes of a file take less
+/// memory, and ids are compared in fewer places of it.
+pub fn parse_change_sharing(
+    alloc: Global,
+    actors: &mut SharedActors,
+    bytes: &[u8],
+) -> Result<Change, ChangeFault>
+    ensures judged { Judges bytes.now result }
+    ensures complete { (c : Change) → Fine c → bytes.now ≡ contents c → (result ≡ Ok c) ⊎ (result ≡ Err ChangeFault.NoMemory) }
+{
+    length_known(bytes);
+    parsed(alloc, actors, bytes)
 }

@@ -3,10 +3,11 @@ ghost use Rattle.std.specs.Prelude.{All};
 ghost use Rattle.am_types.specs.Fine.{Fine};
 
 use am_change::{
-    ChangeFault, ChangeRef, HashList, chunk_of, contents_of, parse_change, with_hashes,
+    ChangeFault, ChangeRef, HashList, chunk_of, contents_of, parse_change, parse_change_sharing,
+    with_hashes,
 };
 use am_opcols::OpCursor;
-use am_types::{Change, Hash};
+use am_types::{Change, Hash, SharedActors};
 use std::alloc::{AllocError, Global};
 use std::process::Abort;
 use std::test::Fail;
@@ -368,4 +369,34 @@ fn makes_both(rt: &impl Abort, alloc: Global, changes: &[Change; 1]) -> Result<(
 fn makes_chunk_and_hash(rt: HostRuntime) -> Result<(), Fail> {
     let changes = [parse_change(rt.alloc(), &A1)?];
     makes_both(&rt, rt.alloc(), &changes)
+}
+
+// Whether the bytes read as the same change, or are refused alike, where actors are shared.
+fn is_read_alike(
+    alloc: Global,
+    actors: &mut SharedActors,
+    bytes: &[u8],
+) -> Result<bool, ChangeFault> {
+    Ok(parse_change_sharing(alloc, actors, bytes)? == parse_change(alloc, bytes)?)
+}
+
+fn are_read_alike(rt: &impl Abort, alloc: Global, changes: &[&[u8]]) -> Result<(), ChangeFault> {
+    let mut actors = SharedActors::new(alloc);
+    for &bytes in changes {
+        assert!(rt; is_read_alike(alloc, &mut actors, bytes)?, "{bytes:?}");
+    }
+    Ok(())
+}
+
+#[test]
+fn reads_changes_that_share_their_actors(rt: HostRuntime) -> Result<(), Fail> {
+    let other_actor = with(A1, 2, 0xbb);
+    let alloc = rt.alloc();
+    are_read_alike(&rt, alloc, &[&A1, &A2, &other_actor, &A3, &E1])?;
+    let mut actors = SharedActors::new(alloc);
+    assert_eq!(rt;
+        parse_change_sharing(alloc, &mut actors, &A1[1..]).err(),
+        fault_of(alloc, &A1[1..])
+    );
+    Ok(())
 }

@@ -13,11 +13,11 @@ ghost use Rattle.am_store.specs.Reading.{MatchBad, IsWrongWith, GivesPairs, Appe
 
 use crate::fault::LoadFault;
 use crate::file_changes::FileChanges;
-use am_change::{ChangeFault, parse_change};
+use am_change::{ChangeFault, parse_change_sharing};
 use am_doc::{DocFault, DocRef, one_judgement};
 use am_frame::{FrameFault, next_frame};
 use am_rebuild::{RebuildFault, rebuild_whole};
-use am_types::{Hash, hash_known};
+use am_types::{Hash, SharedActors, hash_known};
 use std::alloc::{AllocError, Global};
 
 /// Why the first chunk of some bytes wasn't read.
@@ -54,9 +54,10 @@ fn fault_of(fault: FrameFault) -> LoadFault
     }
 }
 
-/// Appends the change of a chunk with these contents and this hash.
+/// Appends the change of a chunk with these contents and this hash. Its actors share their bytes with those before.
 fn push_change(
     alloc: Global,
+    actors: &mut SharedActors,
     hash: Hash,
     contents: &[u8],
     changes: &mut FileChanges<'_>,
@@ -66,7 +67,7 @@ fn push_change(
     ensures ok { (only : Bool) → OnOk result (Appends (GivesPairs only (chunk_of 1 contents.now)) changes.old changes.new) }
     ensures bad { (only : Bool) → IfErr result (λ fault. MatchBad fault (IsWrongWith only (chunk_of 1 contents.now))) }
 {
-    let change = match parse_change(alloc, contents) {
+    let change = match parse_change_sharing(alloc, actors, contents) {
         Ok(change) => change,
         Err(ChangeFault::CompressedColumn) => return Err(ChunkFault::Bad(
             LoadFault::CompressedColumn,
@@ -115,9 +116,11 @@ fn push_document<'a>(
     Ok(())
 }
 
-/// Appends the changes of the first chunk, each behind its hash. What follows the chunk.
+/// Appends the changes of the first chunk, each behind its hash. The actors of a change share their bytes with those
+/// before. What follows the chunk.
 pub fn read_chunk<'a>(
     alloc: Global,
+    actors: &mut SharedActors,
     bytes: &'a [u8],
     only_changes: bool,
     changes: &mut FileChanges<'a>,
@@ -131,7 +134,7 @@ pub fn read_chunk<'a>(
         Err(fault) => return Err(ChunkFault::Bad(fault_of(fault))),
     };
     if frame.kind == 1 {
-        push_change(alloc, frame.hash, frame.contents, changes)?;
+        push_change(alloc, actors, frame.hash, frame.contents, changes)?;
         return Ok(frame.rest);
     }
     if only_changes {

@@ -10,6 +10,7 @@ ghost use Rattle.am_store.specs.Whole.{MatchLoad};
 use crate::chunk::{ChunkFault, read_chunk};
 use crate::fault::{LoadError, ReadFault};
 use crate::file_changes::FileChanges;
+use am_types::SharedActors;
 use std::alloc::Global;
 
 /// Why a file isn't read where this is wrong with the chunk of this number.
@@ -22,7 +23,7 @@ fn refused(chunk: u64, fault: ChunkFault) -> ReadFault
     }
 }
 
-/// The changes of a file. All chunks share one list.
+/// The changes of a file. All chunks share one list, and their actors share their bytes.
 pub fn changes_in<'a>(
     alloc: Global,
     bytes: &'a [u8],
@@ -34,10 +35,11 @@ pub fn changes_in<'a>(
     ensures load { IfErr result (λ fault. MatchLoad fault (λ e. FirstBad only_changes bytes.now e.chunk e.fault)) }
 {
     let mut changes = FileChanges::new(alloc);
+    let mut actors = SharedActors::new(alloc);
     let mut number = 1u64;
     let mut rest = bytes;
     'chunks: while !rest.is_empty() {
-        match read_chunk(alloc, rest, only_changes, &mut changes) {
+        match read_chunk(alloc, &mut actors, rest, only_changes, &mut changes) {
             Ok(behind) => rest = behind,
             Err(fault) => return Err(refused(number, fault)),
         }
