@@ -1,9 +1,25 @@
 //! Copies of changes beside their hashes.
-ghost use Rattle.std.specs.Prelude.{◌≡◌, IfOk};
+ghost use Rattle.std.specs.Prelude.{◌≡◌, IfOk, OnOk};
+ghost use Rattle.std.specs.BTreeMap.{insert_entry};
+ghost use Rattle.am_types.specs.Order.{hash_cmp};
 
 use am_types::{Change, Hash, Twin};
 use std::alloc::{AllocError, Global};
 use std::collections::BTreeMap;
+
+// Puts a copy of the change into the map. A function by itself, so that the loop has one path, whatever stood there.
+fn insert_copy(
+    alloc: Global,
+    map: &mut BTreeMap<Hash, Change>,
+    hash: Hash,
+    change: &Change,
+) -> Result<(), AllocError>
+    ensures { OnOk result (map.new.entries ≡ insert_entry hash_cmp map.old.entries hash change.now) }
+{
+    let twin = change.copy(alloc)?;
+    map.insert(hash, twin)?;
+    Ok(())
+}
 
 /// An equal map.
 pub fn map_copied(
@@ -14,8 +30,7 @@ pub fn map_copied(
 {
     let mut twin = BTreeMap::new(alloc);
     for (hash, change) in changes.iter() {
-        let change = change.copy(alloc)?;
-        twin.insert(*hash, change)?;
+        insert_copy(alloc, &mut twin, *hash, change)?;
     }
     Ok(twin)
 }

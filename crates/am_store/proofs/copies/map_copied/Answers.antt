@@ -11,34 +11,6 @@ use Rattle.am_types.specs.Order.{hash_cmp}
 use Rattle.am_store.proofs.Ordered.{insert_last}
 use Rattle.am_store.proofs.copies.map_copied.Goals as goal
 
-pub loop-hash-preserved-in_ok-insert : goal.loop-hash-preserved-in_ok-insert
-loop-hash-preserved-in_ok-insert c =
-    let w = c.args.changes.now in
-    let ys : List (Hash × Change) = map deref_pair c.loop-hash.yielded in
-    let x : Hash × Change = (c.in-Some.hash.now, c.in-Some.change.now) in
-    let rest : List (Hash × Change) = c.next.new.self in
-    let before : c.into_iter-hash-iterator.result ≡ ys ++ c.loop-hash.hash-iterator = rest_so_far deref_pair c.loop-hash.yielded _ _ c.loop-hash.yielded_by in
-    let step : c.loop-hash.hash-iterator ≡ x ∷ rest = c.in-Some.ensures.steps in
-    let start : c.into_iter-hash-iterator.result ≡ w.entries = c.into_iter-hash-iterator.ensures.into_iter_gives ∙ c.iter-hash-items.ensures.rest in
-    let whole : w.entries ≡ ys ++ x ∷ rest = sym start ∙ before ∙ ap (λ l. ys ++ l) step in
-    let last : insert_entry hash_cmp ys x.0 x.1 ≡ ys ++ x ∷ [] = insert_last ys rest x (subst (λ es. IsStrictlySortedBy hash_cmp (keys_of es)) whole c.iter-hash-items.ensures.ordered) in
-    let copied = c.in_ok-change.ensures in
-    c.in_ok-insert.ensures.entries ∙ (λ i. insert_entry hash_cmp (c.loop-hash.invariant i) x.0 (copied i)) ∙ last ∙ sym (map-append deref_pair c.loop-hash.yielded ((c.in-Some.hash, c.in-Some.change) ∷ []))
-
-pub loop-hash-preserved-in_ok-insert-2 : goal.loop-hash-preserved-in_ok-insert-2
-loop-hash-preserved-in_ok-insert-2 c =
-    let w = c.args.changes.now in
-    let ys : List (Hash × Change) = map deref_pair c.loop-hash.yielded in
-    let x : Hash × Change = (c.in-Some.hash.now, c.in-Some.change.now) in
-    let rest : List (Hash × Change) = c.next.new.self in
-    let before : c.into_iter-hash-iterator.result ≡ ys ++ c.loop-hash.hash-iterator = rest_so_far deref_pair c.loop-hash.yielded _ _ c.loop-hash.yielded_by in
-    let step : c.loop-hash.hash-iterator ≡ x ∷ rest = c.in-Some.ensures.steps in
-    let start : c.into_iter-hash-iterator.result ≡ w.entries = c.into_iter-hash-iterator.ensures.into_iter_gives ∙ c.iter-hash-items.ensures.rest in
-    let whole : w.entries ≡ ys ++ x ∷ rest = sym start ∙ before ∙ ap (λ l. ys ++ l) step in
-    let last : insert_entry hash_cmp ys x.0 x.1 ≡ ys ++ x ∷ [] = insert_last ys rest x (subst (λ es. IsStrictlySortedBy hash_cmp (keys_of es)) whole c.iter-hash-items.ensures.ordered) in
-    let copied = c.in_ok-change.ensures in
-    c.in_ok-insert.ensures.entries ∙ (λ i. insert_entry hash_cmp (c.loop-hash.invariant i) x.0 (copied i)) ∙ last ∙ sym (map-append deref_pair c.loop-hash.yielded ((c.in-Some.hash, c.in-Some.change) ∷ []))
-
 pub loop-hash-preserved : goal.loop-hash-preserved
 loop-hash-preserved c =
     let w = c.args.changes.now in
@@ -50,8 +22,7 @@ loop-hash-preserved c =
     let start : c.into_iter-hash-iterator.result ≡ w.entries = c.into_iter-hash-iterator.ensures.into_iter_gives ∙ c.iter-hash-items.ensures.rest in
     let whole : w.entries ≡ ys ++ x ∷ rest = sym start ∙ before ∙ ap (λ l. ys ++ l) step in
     let last : insert_entry hash_cmp ys x.0 x.1 ≡ ys ++ x ∷ [] = insert_last ys rest x (subst (λ es. IsStrictlySortedBy hash_cmp (keys_of es)) whole c.iter-hash-items.ensures.ordered) in
-    let copied = c.in_ok-change.ensures in
-    c.in_ok-insert.ensures.entries ∙ (λ i. insert_entry hash_cmp (c.loop-hash.invariant i) x.0 (copied i)) ∙ last ∙ sym (map-append deref_pair c.loop-hash.yielded ((c.in-Some.hash, c.in-Some.change) ∷ []))
+    c.in_ok-insert_copy.ensures ∙ (λ i. insert_entry hash_cmp (c.loop-hash.invariant i) x.0 x.1) ∙ last ∙ sym (map-append deref_pair c.loop-hash.yielded ((c.in-Some.hash, c.in-Some.change) ∷ []))
 
 pub returns : goal.returns
 returns c =
