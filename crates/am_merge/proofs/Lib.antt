@@ -39,6 +39,7 @@ pub mod Parts
 pub mod Beginning
 pub mod WalkRows
 pub mod Steps
+pub mod Backwards
 pub mod Ranges
 pub mod NamedLaws
 pub mod Stopping

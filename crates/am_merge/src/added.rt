@@ -1,5 +1,5 @@
 //! The operations of added changes, and what the walk over rows takes of them.
-ghost use Rattle.std.specs.Prelude.{◌≡◌, ◌∷◌, ◌++◌, [], All, IfOk, OnOk, filter, map, reverse};
+ghost use Rattle.std.specs.Prelude.{◌≡◌, ◌∷◌, ◌++◌, [], All, IfOk, OnOk, filter, map};
 ghost use Rattle.am_types.specs.Operations.{operations, all_operations, ascending};
 ghost use Rattle.am_places.specs.Numbered.{operation_of};
 ghost use Rattle.am_places.specs.Sound.{HasRoom};
@@ -77,21 +77,6 @@ pub fn added_operations<'a>(
 {
     let mut all = gather(alloc, changes)?;
     sort_operations(&mut all)?;
-    Ok(all)
-}
-
-/// The same operations, the last one first.
-pub fn backwards<'a>(
-    alloc: Global,
-    operations: &[Numbered<'a>],
-) -> Result<Vec<Numbered<'a>>, AllocError>
-    ensures { IfOk result (λ all. map operation_of all.items ≡ reverse (map operation_of operations.now)) }
-{
-    let mut all = Vec::new(alloc);
-    for i in 0..operations.len() {
-        all.push(operations[i])?;
-    }
-    all.reverse();
     Ok(all)
 }
 

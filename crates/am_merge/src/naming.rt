@@ -116,28 +116,26 @@ fn push_insertions<'a>(
     Ok(())
 }
 
-// Those that have a row and are no insertions.
+// Those that have a row and are no insertions, the last one first.
 fn push_values<'a>(all: &mut Vec<Naming<'a>>, operations: &[Numbered<'a>]) -> Result<(), AllocError>
-    ensures { OnOk result (map named_of all.new.items ≡ map named_of all.old.items ++ references (filter gives_value (map operation_of operations.now))) }
+    ensures { OnOk result (map named_of all.new.items ≡ map named_of all.old.items ++ references (filter gives_value (reverse (map operation_of operations.now)))) }
 {
-    for i in 0..operations.len() {
+    for i in (0..operations.len()).rev() {
         push_value(all, operations[i])?;
     }
     Ok(())
 }
 
-/// The operations that name elements, in the order in which they are put on the stack; they are given in both directions.
+/// The operations that name elements, in the order in which they are put on the stack.
 pub fn references<'a>(
     alloc: Global,
     operations: &[Numbered<'a>],
-    backwards: &[Numbered<'a>],
 ) -> Result<Vec<Naming<'a>>, AllocError>
-    requires { map operation_of backwards.now ≡ reverse (map operation_of operations.now) }
     ensures { IfOk result (λ all. map named_of all.items ≡ references (hanging (map operation_of operations.now))) }
 {
     let mut all = Vec::new(alloc);
     push_insertions(&mut all, operations)?;
-    push_values(&mut all, backwards)?;
+    push_values(&mut all, operations)?;
     Ok(all)
 }
 

@@ -14,7 +14,7 @@ ghost use Rattle.am_merge.specs.Stops.{done_in, waiting_of};
 ghost use Rattle.am_merge.specs.Walk.{beginning, walked};
 ghost use Rattle.am_merge.specs.declared.naming.Naming.{Naming};
 
-use crate::added::{added_operations, backwards, beginning};
+use crate::added::{added_operations, beginning};
 use crate::carry::carried_text;
 use crate::guide::Guide;
 use crate::naming::{Tables, predecessors, references, sort_namings};
@@ -31,8 +31,7 @@ fn tables_of<'a>(alloc: Global, operations: &[Numbered<'a>]) -> Result<Tables<'a
 {
     let mut named = predecessors(alloc, operations)?;
     sort_namings(&mut named)?;
-    let back = backwards(alloc, operations)?;
-    let mut hanging = references(alloc, operations, back.as_slice())?;
+    let mut hanging = references(alloc, operations)?;
     sort_namings(&mut hanging)?;
     let named_guide = Guide::of(alloc, named.as_slice())?;
     let hanging_guide = Guide::of(alloc, hanging.as_slice())?;
