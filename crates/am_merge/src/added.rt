@@ -31,12 +31,21 @@ fn push_operations<'a>(all: &mut Vec<Numbered<'a>>, change: &'a Change) -> Resul
     Ok(())
 }
 
+// How many operations the changes have. No contract asks for it: it tells how much room to take.
+fn total_of(changes: &[&Change]) -> usize {
+    let mut total = 0usize;
+    for i in 0..changes.len() {
+        total = total.saturating_add(changes[i].ops.len());
+    }
+    total
+}
+
 // The operations of each of the changes.
 fn gather<'a>(alloc: Global, changes: &[&'a Change]) -> Result<Vec<Numbered<'a>>, AllocError>
     requires room { All HasRoom (map (λ c. c.now) changes.now) }
     ensures { IfOk result (λ all. map operation_of all.items ≡ all_operations (map (λ c. c.now) changes.now)) }
 {
-    let mut all = Vec::new(alloc);
+    let mut all = Vec::with_capacity(alloc, total_of(changes))?;
     for i in 0..changes.len() {
         push_operations(&mut all, changes[i])?;
     }
