@@ -38,7 +38,6 @@ pub mod ObjectWalk
 pub mod Parts
 pub mod Beginning
 pub mod WalkRows
-pub mod Steps
 pub mod Backwards
 pub mod Ranges
 pub mod NamedLaws

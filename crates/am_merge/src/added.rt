@@ -122,12 +122,12 @@ fn starting<'a>(alloc: Global, operations: &[Numbered<'a>]) -> Result<Vec<Start<
     Ok(all)
 }
 
-// The operations themselves.
-fn operations_in<'a>(alloc: Global, starts: &[Start<'a>]) -> Result<Vec<Numbered<'a>>, AllocError>
-    ensures { IfOk result (λ all. map operation_of all.items ≡ starts.now) }
+// The operations themselves, as a stack: the first one is put last.
+fn stack_of<'a>(alloc: Global, starts: &[Start<'a>]) -> Result<Vec<Numbered<'a>>, AllocError>
+    ensures { IfOk result (λ all. stacked all.items ≡ starts.now) }
 {
-    let mut all = Vec::new(alloc);
-    for i in 0..starts.len() {
+    let mut all = Vec::with_capacity(alloc, starts.len())?;
+    for i in (0..starts.len()).rev() {
         all.push(starts[i].operation())?;
     }
     Ok(all)
@@ -143,7 +143,5 @@ pub fn beginning<'a>(
 {
     let mut starts = starting(alloc, operations)?;
     sort_starts(&mut starts)?;
-    let mut all = operations_in(alloc, starts.as_slice())?;
-    all.reverse();
-    Ok(all)
+    stack_of(alloc, starts.as_slice())
 }

@@ -1,0 +1,6 @@
+use Rattle.std.proofs.Common.{◌≡◌, drop}
+use Rattle.am_merge.specs.Stacks.{stacked}
+use Rattle.am_merge.proofs.added.stack_of.Given as goal
+
+abbrev pub invariant-loop-i : goal.invariant-loop-i
+invariant-loop-i l = stacked l.all.items ≡ drop l.i l.starts
