@@ -1,70 +1,80 @@
 //! Guesses of where a table has the ids with a counter.
+ghost use Rattle.std.specs.Prelude.{◌<◌};
+
+use crate::buckets::{Buckets, bucket_of, buckets_between};
 use crate::naming::Naming;
 use std::alloc::{AllocError, Global};
+use std::marker::Model;
 
-/// From where a table has the ids of each stretch of counters, which are about as many as it has ids. No contract tells it:
-/// who takes a guess sees whether it is right.
+/// From where a table has the ids of each bucket of counters. Contracts see the buckets alone: who takes a guess sees whether it
+/// is right.
 #[derive(Drop)]
 pub struct Guide {
-    least: u64,
-    width: u64,
+    buckets: Buckets,
     starts: Vec<usize>,
 }
 
-// In which stretch a counter is.
-fn stretch_of(counter: u64, least: u64, width: u64) -> u64 {
-    if width == 0 {
-        return 0;
-    }
-    counter.saturating_sub(least) / width
+impl Model for Guide {
+    ghost use Rattle.std.specs.Prelude.{◌<◌};
+    ghost use Rattle.am_merge.specs.declared.buckets.Buckets.{Buckets};
+
+    ghost Value = { Buckets };
+
+    ghost view = { λ g. g.buckets };
+
+    ghost invariant = { λ g. (0 < g.buckets.width) × (0 < g.buckets.count) };
 }
 
-// The stretches up to this one, as far as they have no start, start here.
-fn start_up_to(starts: &mut Vec<usize>, stretch: u64, place: usize) -> Result<(), AllocError> {
-    for _ in starts.len() as u64..stretch.saturating_add(1) {
+// The buckets of a sorted table.
+fn buckets_in(table: &[Naming<'_>]) -> Buckets
+    ensures width { 0 < result.width }
+    ensures count { 0 < result.count }
+{
+    let Some(first) = table.first() else {
+        return buckets_between(0, 0, 0);
+    };
+    let Some(last) = table.last() else {
+        return buckets_between(0, 0, 0);
+    };
+    buckets_between(first.id.counter, last.id.counter, table.len())
+}
+
+// The buckets up to this one, as far as they have no start, start here.
+fn start_up_to(starts: &mut Vec<usize>, bucket: usize, place: usize) -> Result<(), AllocError> {
+    for _ in starts.len()..bucket.saturating_add(1) {
         starts.push(place)?;
     }
     Ok(())
 }
 
-// How wide stretches are.
-fn width_of(table: &[Naming<'_>], least: u64) -> u64 {
-    match table.last() {
-        None => 1,
-        Some(last) => (last.id.counter.saturating_sub(least) / table.len() as u64).saturating_add(
-            1,
-        ),
+// Where each bucket of a sorted table starts.
+fn starts_in(
+    alloc: Global,
+    table: &[Naming<'_>],
+    buckets: Buckets,
+) -> Result<Vec<usize>, AllocError>
+    requires width { 0 < buckets.width }
+    requires count { 0 < buckets.count }
+{
+    let mut starts = Vec::new(alloc);
+    for i in 0..table.len() {
+        start_up_to(&mut starts, bucket_of(buckets, table[i].id.counter), i)?;
     }
+    Ok(starts)
 }
 
 impl Guide {
     /// A guide to a sorted table.
     pub fn of(alloc: Global, table: &[Naming<'_>]) -> Result<Guide, AllocError> {
-        let least = match table.first() {
-            None => 0,
-            Some(first) => first.id.counter,
-        };
-        let width = width_of(table, least);
-        let mut starts = Vec::new(alloc);
-        for i in 0..table.len() {
-            start_up_to(
-                &mut starts,
-                stretch_of(table[i].id.counter, least, width),
-                i,
-            )?;
-        }
-        Ok(Guide {
-            least,
-            width,
-            starts,
-        })
+        let buckets = buckets_in(table);
+        let starts = starts_in(alloc, table, buckets)?;
+        Ok(Guide { buckets, starts })
     }
 
     /// About how many of the table have lesser counters.
     pub fn about(&self, counter: u64) -> usize {
-        let stretch = stretch_of(counter, self.least, self.width);
-        match self.starts.as_slice().get(stretch as usize) {
-            None => self.starts.len(),
+        match self.starts.as_slice().get(bucket_of(self.buckets, counter)) {
+            None => 0,
             Some(start) => *start,
         }
     }
