@@ -47,6 +47,7 @@ impl<N: Number> Item for NumberItem<N> {
 
     ghost reads = { N.reads };
 
+    #[inline(always)]
     fn end(bytes: &[u8]) -> Option<usize> {
         match N::first(bytes) {
             Some((_, len)) => Some(len),
@@ -70,6 +71,7 @@ impl Item for TextItem {
 
     ghost reads = { text_reads };
 
+    #[inline(always)]
     fn end(bytes: &[u8]) -> Option<usize> {
         match text_at(bytes) {
             Some((_, len)) => Some(len),

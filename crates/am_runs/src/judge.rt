@@ -21,6 +21,7 @@ struct Seen<'a> {
     rest: &'a [u8],
 }
 
+#[inline(always)]
 fn are_equal(a: &[u8], b: &[u8]) -> bool
     ensures { result ≡ bytes_eq a.now b.now }
 {
@@ -28,6 +29,7 @@ fn are_equal(a: &[u8], b: &[u8]) -> bool
 }
 
 // The item that begins the bytes, unless it equals the one before it.
+#[inline(always)]
 fn unlike_one<'a, K: Item>(before: &[u8], bytes: &'a [u8]) -> Option<(&'a [u8], &'a [u8])>
     ensures { option_map (λ x. (x.0.now, x.1.now)) result ≡ unlike (λ item rest. Some (item, rest)) before.now bytes.now (K.end_of bytes.now) }
 {
@@ -45,6 +47,7 @@ fn unlike_one<'a, K: Item>(before: &[u8], bytes: &'a [u8]) -> Option<(&'a [u8], 
 }
 
 // The last of the items behind the first, and what is behind them.
+#[inline(always)]
 fn last_unlike<'a, K: Item>(
     first: &'a [u8],
     count: u64,
@@ -68,6 +71,7 @@ fn last_unlike<'a, K: Item>(
     Some((item, rest))
 }
 
+#[inline(always)]
 fn literal_seen<'a, K: Item>(count: u64, bytes: &'a [u8]) -> Option<Seen<'a>>
     requires { 0 < count }
     ensures { option_map sight_in result
@@ -91,6 +95,7 @@ fn literal_seen<'a, K: Item>(count: u64, bytes: &'a [u8]) -> Option<Seen<'a>>
     }
 }
 
+#[inline(always)]
 fn repeat_seen<'a>(count: u64, item: Option<&'a [u8]>, rest: &'a [u8]) -> Seen<'a>
     ensures { ◌≡◌ {A = Sight} (sight_in result)
         (record { count = count; first = option_copied item.entry; last = option_copied item.entry; literal = false; rest = rest.now }) }
@@ -105,6 +110,7 @@ fn repeat_seen<'a>(count: u64, item: Option<&'a [u8]>, rest: &'a [u8]) -> Seen<'
 }
 
 // The run that begins the bytes, if it is tight.
+#[inline(always)]
 fn tight_run<'a, K: Item>(bytes: &'a [u8]) -> Option<Seen<'a>>
     ensures { option_map sight_in result
         ≡ tight_sight K.end_of bytes.now }
@@ -131,6 +137,7 @@ fn tight_run<'a, K: Item>(bytes: &'a [u8]) -> Option<Seen<'a>>
     }
 }
 
+#[inline(always)]
 fn same_entry(a: Option<&[u8]>, b: Option<&[u8]>) -> bool
     ensures { IsTrue result ↔ (option_copied a.entry ≡ option_copied b.entry) }
 {
@@ -143,6 +150,7 @@ fn same_entry(a: Option<&[u8]>, b: Option<&[u8]>) -> bool
     }
 }
 
+#[inline(always)]
 fn may_follow(last: Option<&[u8]>, literal: bool, run: &Seen<'_>) -> bool
     ensures { IsTrue result ↔ ((option_copied last.entry ≡ option_copied run.now.first → ⊥) × ((literal ≡ true) × (run.now.literal ≡ true) → ⊥)) }
 {
@@ -155,6 +163,7 @@ fn may_follow(last: Option<&[u8]>, literal: bool, run: &Seen<'_>) -> bool
     true
 }
 
+#[inline(always)]
 fn may_come_after(before: Option<Seen<'_>>, run: &Seen<'_>) -> bool
     ensures { IsTrue result ↔ MayComeAfter (option_map sight_in before.entry)
         (sight_in run.now) }
@@ -166,6 +175,7 @@ fn may_come_after(before: Option<Seen<'_>>, run: &Seen<'_>) -> bool
 }
 
 // The run that begins the bytes, if it is tight, may follow, and has at most so many entries.
+#[inline(always)]
 fn next_run<'a, K: Item>(before: Option<Seen<'a>>, bytes: &'a [u8], most: u64) -> Option<Seen<'a>>
     ensures found { IfSome result (λ s. IsNext K.end_of (option_map sight_in before.entry) bytes.now most
         (sight_in s)) }
@@ -186,6 +196,7 @@ fn next_run<'a, K: Item>(before: Option<Seen<'a>>, bytes: &'a [u8], most: u64) -
     }
 }
 
+#[inline(always)]
 fn or_item(seen: bool, first: Option<&[u8]>) -> bool
     ensures { result ≡ item_seen seen (option_copied first.entry) }
 {

@@ -83,6 +83,7 @@ fn put_null<K: Item>(done: &mut Vec<u8>, p: &mut Pending) -> Result<(), AllocErr
     }
 }
 
+#[inline(always)]
 pub fn is_same(a: &[u8], b: &[u8]) -> bool
     ensures { IsTrue result ↔ (a.now ≡ b.now) }
 {

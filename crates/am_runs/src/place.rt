@@ -41,6 +41,7 @@ pub fn open_null_run<'a>(bytes: &'a [u8]) -> Option<Position<'a>>
     }
 }
 
+#[inline(always)]
 fn open_repeat_run<'a, K: Item>(count: u64, bytes: &'a [u8]) -> Option<Position<'a>>
     ensures { option_map place_of result ≡ open_repeat count bytes.now (K.end_of bytes.now) }
 {
@@ -55,6 +56,7 @@ fn open_repeat_run<'a, K: Item>(count: u64, bytes: &'a [u8]) -> Option<Position<
     }
 }
 
+#[inline(always)]
 pub fn opened<'a, K: Item>(bytes: &'a [u8]) -> Option<Position<'a>>
     ensures { option_map place_of result ≡ open_run K.end_of bytes.now }
 {
