@@ -48,6 +48,7 @@ pub fn number_at<'a>(bytes: &'a [u8]) -> Option<(u64, &'a [u8])>
 }
 
 // A specification and a length, and the bytes behind them.
+#[inline(always)]
 pub fn pair_at<'a>(bytes: &'a [u8]) -> Option<((u64, u64), &'a [u8])>
     ensures read { option_map {U = (ℕ × ℕ) × List ℕ} (λ found. (found.0, found.1.now)) result ≡ first_pair bytes.now }
     ensures fits { IfSome result (λ found. (found.0.0 < 2 ^ 64) × (found.0.1 < 2 ^ 64)) }
@@ -58,6 +59,7 @@ pub fn pair_at<'a>(bytes: &'a [u8]) -> Option<((u64, u64), &'a [u8])>
 }
 
 // Bytes that stand behind their length, and the bytes behind them.
+#[inline(always)]
 pub fn prefixed_at<'a>(bytes: &'a [u8]) -> Option<(&'a [u8], &'a [u8])>
     ensures { option_map {U = List ℕ × List ℕ} (λ found. (found.0.now, found.1.now)) result ≡ first_prefixed bytes.now }
 {
