@@ -1,6 +1,6 @@
 -- Writers that were given one more, or some more.
-use Rattle.std.proofs.Common.{◌≡◌, ℕ, zero, suc, add-one, ◌+◌, ◌<◌, ◌≤◌, List, [], ◌∷◌, ◌++◌, length, map, take, get_or, Option, Some, None, Bool, refl, sym, ap, ◌∙◌, arith, append_assoc}
-use Rattle.std.specs.Prelude.{IfSome, IfNone, OnOk, Result, Ok, Err}
+use Rattle.std.proofs.Common.{◌≡◌, ℕ, zero, suc, add-one, ◌+◌, ◌<◌, ◌≤◌, List, [], ◌∷◌, ◌++◌, length, map, take, get_or, Option, Some, None, Bool, true, false, refl, sym, ap, ◌∙◌, arith, append_assoc}
+use Rattle.std.specs.Prelude.{IfSome, IfNone, IsSome, OnOk, Result, Ok, Err}
 use Rattle.std.proofs.lemmas.List.{length-append, map-append, append-nil}
 use Rattle.am_types.specs.declared.ObjId.{ObjId}
 use Rattle.am_types.specs.declared.Key.{Key}
@@ -90,3 +90,8 @@ lists o k i a v e m = record { objects = o; keys = k; inserts = i; actions = a; 
 pub lists_same : (o o' : List ObjId) (k k' : List Key) (i i' : List Bool) (a a' : List ℕ) (v v' : List RawValue) (e e' : List Bool) (m m' : List (Option (List ℕ)))
     → o ≡ o' → k ≡ k' → i ≡ i' → a ≡ a' → v ≡ v' → e ≡ e' → m ≡ m' → lists o k i a v e m ≡ lists o' k' i' a' v' e' m'
 lists_same o o' k k' i i' a a' v v' e e' m m' e1 e2 e3 e4 e5 e6 e7 = rw (e1, e2, e3, e4, e5, e6, e7) refl
+
+-- what would be an error, were it nothing, and is none
+pub some_where : {A : Type 0} (o : Option A) → IfNone o (false ≡ true) → IsSome o
+some_where None h = absurd (cc)
+some_where (Some x) h = refl

@@ -1,5 +1,5 @@
--- The writers of several columns have room for one more, or for n more.
-use Rattle.std.specs.Prelude.{ℕ, ◌+◌, ◌<◌, ◌≤◌, ◌^◌, List, length, Option, IfSome}
+-- The writers of several columns have room for one more, or for n more; none of them wanted memory.
+use Rattle.std.specs.Prelude.{ℕ, ◌+◌, ◌<◌, ◌≤◌, ◌^◌, List, length, Option, IfSome, IsSome}
 use Rattle.am_fields.specs.declared.field_writer.FieldWriter.{FieldWriter}
 
 -- fewer than 2 ^ 32 items were written
@@ -45,3 +45,16 @@ pub record AreShort (w : FieldWriter) : Type 0 where
   pub key_name : IsShort w.key_name
   pub action : IsShort w.action
   pub mark : IsShort w.mark
+
+-- no writer wanted memory
+pub record AreHeld (w : FieldWriter) : Type 0 where
+  pub object_actor : IsSome w.object_actor
+  pub object_counter : IsSome w.object_counter
+  pub key_actor : IsSome w.key_actor
+  pub key_counter : IsSome w.key_counter
+  pub key_name : IsSome w.key_name
+  pub insert : IsSome w.insert
+  pub action : IsSome w.action
+  pub value : IsSome w.value
+  pub expand : IsSome w.expand
+  pub mark : IsSome w.mark

@@ -85,7 +85,7 @@ impl FieldWriter {
     ghost use Rattle.am_types.specs.Views.{key_of, value_of};
     ghost use Rattle.am_fields.specs.Held.{FieldLists, FieldsHeld, FieldsFit, FieldsSpelled, with_fields};
     ghost use Rattle.am_fields.specs.Front.{with_first, HaveFields, AreBehind};
-    ghost use Rattle.am_fields.specs.Rooms.{FieldsHaveRoom, FieldsHaveRoomFor, AreShort};
+    ghost use Rattle.am_fields.specs.Rooms.{FieldsHaveRoom, FieldsHaveRoomFor, AreHeld, AreShort};
 
     /// No fields.
     pub fn new(alloc: Global) -> Self
@@ -156,7 +156,8 @@ impl FieldWriter {
     // Finishes each column into its place.
     fn fill(&mut self, alloc: Global, text: &mut FieldText) -> Result<(), AllocError>
         requires { AreShort self.old }
-        ensures { OnOk result ((actors : List (List ℕ)) (x : FieldLists) → FieldsHeld actors x self.old → FieldsFit x → FieldsSpelled actors x text.new) }
+        ensures failed { OnOk result (AreHeld self.old) }
+        ensures ok { OnOk result ((actors : List (List ℕ)) (x : FieldLists) → FieldsHeld actors x self.old → FieldsFit x → FieldsSpelled actors x text.new) }
     {
         finish_items(alloc, &mut self.object_actor, &mut text.object_actor)?;
         finish_items(alloc, &mut self.object_counter, &mut text.object_counter)?;
@@ -172,10 +173,12 @@ impl FieldWriter {
     }
 
     /// The columns, each in its one canonical spelling: those of flags that are always listed with runs of both values,
-    /// and those that are left out where all are false. An error says that memory was wanted.
+    /// and those that are left out where all are false. An error says that memory was wanted, now or before by any of the
+    /// writers.
     pub fn finish(self, alloc: Global) -> Result<FieldText, AllocError>
         requires { AreShort self }
-        ensures { IfOk result (λ text. (actors : List (List ℕ)) (x : FieldLists) → FieldsHeld actors x self → FieldsFit x → FieldsSpelled actors x text) }
+        ensures failed { OnOk result (AreHeld self) }
+        ensures ok { IfOk result (λ text. (actors : List (List ℕ)) (x : FieldLists) → FieldsHeld actors x self → FieldsFit x → FieldsSpelled actors x text) }
     {
         let mut writer = self;
         let mut text = FieldText::new(alloc);

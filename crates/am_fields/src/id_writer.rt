@@ -58,7 +58,7 @@ fn push_ids(
 }
 
 impl IdWriter {
-    ghost use Rattle.std.specs.Prelude.{◌≡◌, ◌+◌, ◌≤◌, ◌++◌, ◌∷◌, ◌^◌, [], List, ℕ, All, length, take, drop, IfSome, OnOk};
+    ghost use Rattle.std.specs.Prelude.{◌≡◌, ◌+◌, ◌≤◌, ◌++◌, ◌∷◌, ◌^◌, [], Some, List, ℕ, All, length, take, drop, IfSome, IfNone, IsErr, OnOk};
     ghost use Rattle.am_types.specs.declared.OpId.{OpId};
     ghost use Rattle.am_types.specs.Fine.{IsId};
     ghost use Rattle.am_types.specs.Views.{id_of};
@@ -113,7 +113,7 @@ impl IdWriter {
     }
 
     /// The column of places and that of counters, each in its one canonical spelling, into bytes that are there. An error
-    /// says that memory was wanted.
+    /// says that memory was wanted, now or before by either writer; else both are left with nothing pushed.
     pub fn finish(
         &mut self,
         alloc: Global,
@@ -121,7 +121,10 @@ impl IdWriter {
         counters: &mut Bytes,
     ) -> Result<(), AllocError>
         requires { IsShort self.old.places }
-        ensures { OnOk result ((actors : List (List ℕ)) (ids : List OpId) → IdsHeld actors ids self.old → IdsFit ids → IdsSpelled actors ids places.new counters.new) }
+        ensures failed_places { IfNone self.old.places (IsErr result) }
+        ensures failed_counters { IfNone self.old.counters (IsErr result) }
+        ensures ok { OnOk result ((actors : List (List ℕ)) (ids : List OpId) → IdsHeld actors ids self.old → IdsFit ids → IdsSpelled actors ids places.new counters.new) }
+        ensures emptied { OnOk result ((self.new.places ≡ Some []) × (self.new.counters ≡ Some [])) }
     {
         finish_items(alloc, &mut self.places, places)?;
         finish_deltas(alloc, &mut self.counters, counters)?;

@@ -98,6 +98,7 @@ impl<'a> OpColumns<'a> {
     }
 
     // The bytes of the column with the specification, and no bytes where it isn't listed.
+    #[inline(always)]
     pub(crate) fn find(&self, specification: u64) -> &'a [u8]
         ensures { result.now ≡ column_at self.now specification }
     {

@@ -21,6 +21,7 @@ pub fn cut<'a>(size: u64, raw: &'a [u8]) -> (&'a [u8], &'a [u8])
 }
 
 // The raw bytes behind the next value, if it stands there and is good.
+#[inline(always)]
 fn behind<'a>(number: Option<u64>, raw: &'a [u8]) -> Option<&'a [u8]>
     ensures some { IfSome result (λ rest. IsCut number raw.now × (rest.now ≡ drop (width number) raw.now)) }
     ensures none { IfNone result (IsCut number raw.now → ⊥) }
