@@ -140,12 +140,13 @@ impl<'a> ChangeRef<'a> {
         ensures { IfOk result (λ c. c ≡ self.now) }
     {
         let mut actors = SharedActors::new(alloc);
+        let mut ops = self.ops.again();
         change_in(
             alloc,
             &mut actors,
             &self.front,
             self.message,
-            self.ops.again(),
+            &mut ops,
             self.extra,
         )
     }

@@ -1,5 +1,5 @@
 //! Copying what is lent from the bytes of a change.
-ghost use Rattle.std.specs.Prelude.{◌≡◌, ◌≤◌, ◌*◌, length, option_map, IfOk};
+ghost use Rattle.std.specs.Prelude.{◌≡◌, ◌≤◌, ◌*◌, ◌++◌, ◌∷◌, [], length, option_map, IfOk, OnOk};
 ghost use Rattle.std.specs.List.{AllByRecursion};
 ghost use Rattle.am_types.specs.Views.{id_of, object_of, key_of, value_of};
 ghost use Rattle.am_fields.specs.Limits.{IsWithin, IsObjectWithin, IsKeyWithin};
@@ -136,16 +136,18 @@ fn preds_in(
     Ok(copy)
 }
 
-fn op_in(
+// Appends an operation, owned. It is made where it is appended, since to hand it on costs as much as to copy its fields.
+fn push_op(
+    to: &mut Vec<Op>,
     alloc: Global,
     actors: &mut SharedActors,
     op: OpHead<'_>,
     preds: &mut PredCursor<'_>,
-) -> Result<Op, AllocError>
+) -> Result<(), AllocError>
     requires { IsOpWithin (head_with op preds.old) }
-    ensures { IfOk result (λ copy. copy ≡ head_with op.entry preds.old) }
+    ensures { OnOk result (to.new.items ≡ to.old.items ++ head_with op.entry preds.old ∷ []) }
 {
-    Ok(Op {
+    let copy = Op {
         obj: object_in(alloc, actors, op.obj)?,
         key: key_in(alloc, actors, op.key)?,
         insert: op.insert,
@@ -154,23 +156,24 @@ fn op_in(
         preds: preds_in(alloc, actors, preds)?,
         expand: op.expand,
         mark: mark_in(alloc, op.mark)?,
-    })
+    };
+    to.push(copy)?;
+    Ok(())
 }
 
-// The operations, owned.
+// The operations, owned. The cursor, which is large, isn't moved.
 fn ops_in(
     alloc: Global,
     actors: &mut SharedActors,
-    ops: OpCursor<'_>,
+    ops: &mut OpCursor<'_>,
 ) -> Result<List<Op>, AllocError>
-    requires { AllByRecursion IsOpWithin ops }
-    ensures { IfOk result (λ copy. copy ≡ ops.entry) }
+    requires { AllByRecursion IsOpWithin ops.old }
+    ensures { IfOk result (λ copy. copy ≡ ops.old) }
 {
     let mut copy = Vec::with_capacity(alloc, ops.left() as usize)?;
-    let mut rest = ops;
     let mut preds = PredCursor::none();
-    while let Some(op) = rest.next_into(&mut preds) {
-        copy.push(op_in(alloc, actors, op, &mut preds)?)?;
+    while let Some(op) = ops.next_into(&mut preds) {
+        push_op(&mut copy, alloc, actors, op, &mut preds)?;
     }
     Ok(List::from(copy))
 }
@@ -181,15 +184,15 @@ pub fn change_in(
     actors: &mut SharedActors,
     front: &FrontRef<'_>,
     message: &str,
-    ops: OpCursor<'_>,
+    ops: &mut OpCursor<'_>,
     extra: &[u8],
 ) -> Result<Change, AllocError>
     requires hashes { length front.now.hashes.now ≡ 32 * front.now.count }
     requires message { message.now ≡ front.now.message.now }
     requires some { 1 ≤ length front.now.actor.now }
     requires few { length front.now.actor.now ≤ 1024 }
-    requires within { AllByRecursion IsOpWithin ops }
-    ensures { IfOk result (λ c. c ≡ change_with (front_of front.now) ops.entry extra.now) }
+    requires within { AllByRecursion IsOpWithin ops.old }
+    ensures { IfOk result (λ c. c ≡ change_with (front_of front.now) ops.old extra.now) }
 {
     Ok(Change {
         deps: hashes_of(alloc, front.hashes, front.count)?,

@@ -137,15 +137,15 @@ fn parsed(alloc: Global, actors: &mut SharedActors, bytes: &[u8]) -> Result<Chan
     if front.listed.compressed() {
         return Err(ChangeFault::CompressedColumn);
     }
-    let Some(behind) = opened(&front, rest) else {
+    let Some(mut behind) = opened(&front, rest) else {
         return Err(ChangeFault::BadChange);
     };
     let count = behind.ops.left();
     if !is_fine_beside(&front, behind.message, count, behind.extra) {
         return Err(ChangeFault::BadChange);
     }
-    let ops = behind.ops.again();
-    let Ok(change) = change_in(alloc, actors, &front, behind.message, ops, behind.extra) else {
+    let (message, extra) = (behind.message, behind.extra);
+    let Ok(change) = change_in(alloc, actors, &front, message, &mut behind.ops, extra) else {
         return Err(ChangeFault::NoMemory);
     };
     if !are_fine_with_values(change.ops.as_slice()) {
@@ -168,9 +168,8 @@ pub fn parse_change(alloc: Global, bytes: &[u8]) -> Result<Change, ChangeFault>
     // The contents of a fine change are read as this change.
     ensures complete { (c : Change) → Fine c → bytes.now ≡ contents c → (result ≡ Ok c) ⊎ (result ≡ Err ChangeFault.NoMemory) }
 {
-    length_known(bytes);
     let mut actors = SharedActors::new(alloc);
-    parsed(alloc, &mut actors, bytes)
+    parse_change_sharing(alloc, &mut actors, bytes)
 }
 
 /// The same, where actors share their bytes with those of changes that were read before. So the changes of a file take less

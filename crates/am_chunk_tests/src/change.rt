@@ -396,7 +396,7 @@ fn reads_changes_that_share_their_actors(rt: HostRuntime) -> Result<(), Fail> {
     let mut actors = SharedActors::new(alloc);
     assert_eq!(rt;
         parse_change_sharing(alloc, &mut actors, &A1[1..]).err(),
-        fault_of(alloc, &A1[1..])
+        Some(ChangeFault::BadChange)
     );
     Ok(())
 }

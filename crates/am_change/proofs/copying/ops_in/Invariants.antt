@@ -4,7 +4,7 @@ use Rattle.am_change.specs.Building.{IsOpWithin}
 use Rattle.am_change.proofs.copying.ops_in.Given as goal
 
 abbrev pub invariant-loop-op : goal.invariant-loop-op
-invariant-loop-op l = (AllByRecursion IsOpWithin l.rest) × (l.copy.items ++ l.rest ≡ l.fn.ops)
+invariant-loop-op l = (AllByRecursion IsOpWithin l.ops) × (l.copy.items ++ l.ops ≡ l.fn.ops)
 
 abbrev pub decreases-loop-op : goal.decreases-loop-op
-decreases-loop-op l = length l.rest
+decreases-loop-op l = length l.ops

@@ -1,4 +1,4 @@
-use Rattle.std.proofs.Common.{◌≡◌, List, ◌∷◌, All, refl, sym, subst, ap, ◌∙◌, arith}
+use Rattle.std.proofs.Common.{◌≡◌, ◌∷◌, All, refl, sym, subst, ap, ◌∙◌, arith}
 use Rattle.std.specs.List.{AllByRecursion}
 use Rattle.std.proofs.lemmas.List.Elements.{All-from_recursion, recursion_from_All}
 use Rattle.am_types.specs.Values.{Good}
@@ -10,7 +10,7 @@ use Rattle.am_opcols.specs.Others.{others}
 use Rattle.am_opcols.specs.Writing.{written_columns}
 use Rattle.am_opcols.proofs.CanonicalLaws.{length-preds}
 use Rattle.am_change.specs.Contents.{contents}
-use Rattle.am_change.specs.Building.{front_of, change_with, IsOpWithin}
+use Rattle.am_change.specs.Building.{front_of, change_with}
 use Rattle.am_change.proofs.Parsing.{no_front, no_change, same_change, ops_within, good_values}
 use Rattle.am_change.proofs.InPlace.{own_contents, canonical_as}
 use Rattle.am_change.proofs.parse.parsed.Goals as goal
@@ -51,20 +51,20 @@ change_in-requires c =
       message = c.in-Some-opened.ensures.message;
       some = c.in-Some-opened.ensures.some;
       few = c.in-Some-opened.ensures.few;
-      within = subst (AllByRecursion IsOpWithin) (sym c.again-ops.ensures) (ops_within behind.ops (c.in-Some-opened.ensures.spelled).within);
+      within = ops_within behind.ops (c.in-Some-opened.ensures.spelled).within;
     }
 
 pub are_fine_with_values-requires : goal.are_fine_with_values-requires
 are_fine_with_values-requires c =
     let behind = c.in-Some-opened.behind in
-    let whole : c.in-Ok.change ≡ change_with (front_of c.in-Some.front) behind.ops behind.extra.now = c.in-Ok.ensures ∙ ap (λ (os : List Op). change_with (front_of c.in-Some.front) os behind.extra.now) c.again-ops.ensures in
+    let whole : c.in-Ok.change ≡ change_with (front_of c.in-Some.front) behind.ops behind.extra.now = c.in-Ok.ensures in
     let read : c.as_slice.result.now ≡ behind.ops = c.as_slice.ensures ∙ ap (λ (x : Change). x.ops) whole in
     subst (AllByRecursion (λ (op : Op). Good op.value)) (sym read) (good_values behind.ops ((c.in-Some-opened.ensures.spelled).within.values))
 
 pub returns-then-not-are_fine_with_values : goal.returns-then-not-are_fine_with_values
 returns-then-not-are_fine_with_values c =
     let behind = c.in-Some-opened.behind in
-    let whole : c.in-Ok.change ≡ change_with (front_of c.in-Some.front) behind.ops behind.extra.now = c.in-Ok.ensures ∙ ap (λ (os : List Op). change_with (front_of c.in-Some.front) os behind.extra.now) c.again-ops.ensures in
+    let whole : c.in-Ok.change ≡ change_with (front_of c.in-Some.front) behind.ops behind.extra.now = c.in-Ok.ensures in
     no_change c.args.bytes.now (front_of c.in-Some.front) c.in-Some.rest.now c.length_known.ensures c.in-Some.ensures.some.0 c.in-Some.ensures.some.1 (λ h. absurd (cc (c.if-compressed.ensures.some.1 h)))
     (λ d fine s e r b.
     let got = c.in-Some-opened.ensures.only d fine s e r in
@@ -74,7 +74,7 @@ returns-then-not-are_fine_with_values c =
 pub is_canonical_of-requires : goal.is_canonical_of-requires
 is_canonical_of-requires c =
     let behind = c.in-Some-opened.behind in
-    let whole : c.in-Ok.change ≡ change_with (front_of c.in-Some.front) behind.ops behind.extra.now = c.in-Ok.ensures ∙ ap (λ (os : List Op). change_with (front_of c.in-Some.front) os behind.extra.now) c.again-ops.ensures in
+    let whole : c.in-Ok.change ≡ change_with (front_of c.in-Some.front) behind.ops behind.extra.now = c.in-Ok.ensures in
     let same : c.as_slice-2.result.now ≡ behind.ops = c.as_slice-2.ensures ∙ ap (λ (x : Change). x.ops) whole in
     record {
       spelled = subst (SpellsOps ((front_of c.in-Some.front).actor ∷ (front_of c.in-Some.front).others) behind.columns) (sym same) c.in-Some-opened.ensures.spelled;
@@ -85,7 +85,7 @@ is_canonical_of-requires c =
 pub returns-then-not-canonical : goal.returns-then-not-canonical
 returns-then-not-canonical c =
     let behind = c.in-Some-opened.behind in
-    let whole : c.in-Ok.change ≡ change_with (front_of c.in-Some.front) behind.ops behind.extra.now = c.in-Ok.ensures ∙ ap (λ (os : List Op). change_with (front_of c.in-Some.front) os behind.extra.now) c.again-ops.ensures in
+    let whole : c.in-Ok.change ≡ change_with (front_of c.in-Some.front) behind.ops behind.extra.now = c.in-Ok.ensures in
     let own : c.as_slice-2.result.now ≡ behind.ops = c.as_slice-2.ensures ∙ ap (λ (x : Change). x.ops) whole in
     no_change c.args.bytes.now (front_of c.in-Some.front) c.in-Some.rest.now c.length_known.ensures c.in-Some.ensures.some.0 c.in-Some.ensures.some.1 (λ h. absurd (cc (c.if-compressed.ensures.some.1 h)))
     (λ d fine s e r b.
@@ -95,7 +95,7 @@ returns-then-not-canonical c =
 pub returns : goal.returns
 returns c =
     let behind = c.in-Some-opened.behind in
-    let whole : c.in-Ok.change ≡ change_with (front_of c.in-Some.front) behind.ops behind.extra.now = c.in-Ok.ensures ∙ ap (λ (os : List Op). change_with (front_of c.in-Some.front) os behind.extra.now) c.again-ops.ensures in
+    let whole : c.in-Ok.change ≡ change_with (front_of c.in-Some.front) behind.ops behind.extra.now = c.in-Ok.ensures in
     let f = front_of c.in-Some.front in
     let own : c.as_slice-2.result.now ≡ behind.ops = c.as_slice-2.ensures ∙ ap (λ (x : Change). x.ops) whole in
     let canonical = c.in-Ok-is_canonical_of.ensures.0 (let yes = c.if-not-canonical.false in cc) in

@@ -1,5 +1,0 @@
-use Rattle.am_change.proofs.Parsing.{completed}
-use Rattle.am_change.proofs.parse.parse_change.Goals as goal
-
-pub returns-clause-complete : goal.returns-clause-complete
-returns-clause-complete c = completed c.args.bytes.now c.parsed.result c.length_known.ensures c.parsed.ensures
