@@ -1,9 +1,11 @@
 //! The operations of the ancestors of a change.
-ghost use Rattle.std.specs.Prelude.{◌≡◌, option_map, IfSome};
+ghost use Rattle.std.specs.Prelude.{◌≡◌, ℕ, List, Contains, option_map, IfSome};
 ghost use Rattle.am_types.specs.Views.{id_of};
 ghost use Rattle.am_graph.specs.Clocks.{reach_of};
 ghost use Rattle.am_graph.specs.Reaches.{number};
-ghost use Rattle.am_fits.specs.Past.{IsPast};
+ghost use Rattle.am_graph.specs.declared.reach.Reach.{Reach};
+ghost use Rattle.am_fits.specs.Past.{IsPast, AreRecent};
+ghost use Rattle.am_fits.specs.declared.table.Table.{Table};
 ghost use Rattle.am_fits.specs.Shown.{fact_shown};
 ghost use Rattle.am_fits.specs.Told.{ancestor_fact};
 ghost use Rattle.am_fits.specs.Words.{words_of};
@@ -14,6 +16,9 @@ use crate::table::Table;
 use am_graph::Reached;
 use am_types::{IdRef, same_actor, same_id};
 use std::marker::Model;
+
+/// So many actors are kept beside the one who was asked for last.
+const OTHERS: usize = 6;
 
 /// What was found out about an actor.
 #[derive(Clone, Copy, Debug)]
@@ -33,31 +38,40 @@ pub(crate) struct Found<'a> {
     pub seen: Option<Seen<'a>>,
 }
 
-/// The operations of the ancestors of a change. What was found out about the two actors that were asked for last is kept,
-/// since the ids that a change names have few actors, often by turns; and what the last object is, since operations that
-/// stand together are mostly of one object. Contracts see the clock of the ancestors and the facts of all operations.
+/// What was found out about the actor who was asked for last, and about some who were asked for before.
+#[derive(Clone, Copy, Debug)]
+pub(crate) struct Recent<'a> {
+    pub last: Asked<'a>,
+    pub others: [Asked<'a>; OTHERS],
+    /// Which of the others makes way for the next one.
+    pub turn: usize,
+}
+
+/// The operations of the ancestors of a change. What was found out about some actors is kept, since the ids that a change
+/// names have few actors, often by turns; and what two objects are, since operations that stand together are mostly of one
+/// object, or of two by turns. Contracts see the clock of the ancestors and the facts of all operations.
 #[derive(Drop)]
 pub(crate) struct Ancestors<'a> {
     reached: Reached<'a>,
     table: &'a Table,
-    asked: Asked<'a>,
-    /// The actor who was asked for before.
-    before: Asked<'a>,
-    /// The object that was asked for last.
+    recent: Recent<'a>,
+    /// The object that was looked up last.
     object: Option<Found<'a>>,
+    /// The object that was looked up before it.
+    before: Option<Found<'a>>,
 }
 
 impl<'a> Model for Ancestors<'a> {
     ghost use Rattle.std.specs.Prelude.{IfSome};
-    ghost use Rattle.am_fits.specs.Past.{Past, IsPast, IsFound};
+    ghost use Rattle.am_fits.specs.Past.{Past, AreRecent, IsFound};
     ghost use Rattle.am_fits.specs.Tables.{facts_in};
 
     ghost Value = { Past };
 
     ghost view = { λ a. record { clock = a.reached; facts = facts_in a.table.now } };
 
-    ghost invariant = { λ a. IsPast a.reached a.table.now a.asked × IsPast a.reached a.table.now a.before
-        × IfSome a.object (IsFound a.reached (facts_in a.table.now)) };
+    ghost invariant = { λ a. AreRecent a.reached a.table.now a.recent
+        × IfSome a.object (IsFound a.reached (facts_in a.table.now)) × IfSome a.before (IsFound a.reached (facts_in a.table.now)) };
 }
 
 impl<'a> Ancestors<'a> {
@@ -71,9 +85,9 @@ impl<'a> Ancestors<'a> {
         Ancestors {
             reached,
             table,
-            asked,
-            before: asked,
+            recent: recent_of(asked),
             object: None,
+            before: None,
         }
     }
 
@@ -87,7 +101,13 @@ impl<'a> Ancestors<'a> {
                 return found.seen;
             }
         }
+        if let Some(found) = self.before {
+            if same_id(found.id, id) {
+                return found.seen;
+            }
+        }
         let seen = self.find(id);
+        self.before = self.object;
         self.object = Some(Found { id, seen });
         seen
     }
@@ -97,37 +117,69 @@ impl<'a> Ancestors<'a> {
         ensures same { self.new ≡ self.old }
         ensures found { option_map fact_shown result ≡ ancestor_fact self.old.clock self.old.facts (id_of id.entry) }
     {
-        let (asked, before) = ask(self.asked, self.before, &self.reached, self.table, id.actor);
-        self.asked = asked;
-        self.before = before;
-        if id.counter >= self.asked.end {
+        let (asked, is_new) = ask(&self.recent, &self.reached, self.table, id.actor);
+        keep(&mut self.recent, asked, is_new);
+        if id.counter >= asked.end {
             return None;
         }
-        self.table.at(self.asked.author, id.counter)
+        self.table.at(asked.author, id.counter)
     }
 }
 
-/// What is known of the actor, and of the one who was asked for before.
+/// What is known of the actor, and whether that was not kept yet.
 fn ask<'a>(
-    asked: Asked<'a>,
-    before: Asked<'a>,
+    recent: &Recent<'a>,
     reached: &Reached<'_>,
     table: &'a Table,
     actor: &'a [u8],
-) -> (Asked<'a>, Asked<'a>)
-    requires asked { IsPast reached.now table.now asked }
-    requires before { IsPast reached.now table.now before }
+) -> (Asked<'a>, bool)
+    requires recent { AreRecent reached.now table.now recent.now }
     ensures past { IsPast reached.now table.now result.0 }
     ensures actor { result.0.actor.now ≡ actor.now }
-    ensures before { IsPast reached.now table.now result.1 }
 {
-    if same_actor(asked.actor, actor) {
-        return (asked, before);
+    if same_actor(recent.last.actor, actor) {
+        return (recent.last, false);
     }
-    if same_actor(before.actor, actor) {
-        return (before, asked);
+    if let Some(known) = known(&recent.others, actor) {
+        return (known, false);
     }
-    (asked_of(reached, table, actor), asked)
+    (asked_of(reached, table, actor), true)
+}
+
+/// What is kept of the actor.
+fn known<'a>(others: &[Asked<'a>], actor: &[u8]) -> Option<Asked<'a>>
+    ensures among { IfSome result (λ a. Contains others.now a) }
+    ensures actor { IfSome result (λ a. a.actor.now ≡ actor.now) }
+{
+    for other in others {
+        if same_actor(other.actor, actor) {
+            return Some(*other);
+        }
+    }
+    None
+}
+
+/// Nothing but this one.
+fn recent_of<'a>(asked: Asked<'a>) -> Recent<'a>
+    ensures { (clock : List (List ℕ × Reach)) (t : Table) → IsPast clock t asked.entry → AreRecent clock t result }
+{
+    Recent {
+        last: asked,
+        others: [asked; OTHERS],
+        turn: 0,
+    }
+}
+
+/// Puts one in the place of the last and, if it is new, in that of another.
+fn keep<'a>(recent: &mut Recent<'a>, asked: Asked<'a>, is_new: bool)
+    ensures { (clock : List (List ℕ × Reach)) (t : Table) → IsPast clock t asked.entry → AreRecent clock t recent.old → AreRecent clock t recent.new }
+{
+    recent.last = asked;
+    if is_new {
+        let turn = recent.turn % OTHERS;
+        recent.others[turn] = asked;
+        recent.turn = turn + 1;
+    }
 }
 
 /// What the clock and the table tell of an actor.

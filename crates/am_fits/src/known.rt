@@ -47,7 +47,7 @@ fn is_good<'a, C: ReadChange>(
     preds_are_known(ancestors, change, place, op)
 }
 
-/// Whether the object is there, and takes the key.
+/// Whether the object is there, and takes the key. Mostly it is the ancestors' operation that was found last.
 fn object_takes<'a, C: ReadChange>(
     ancestors: &mut Ancestors<'a>,
     change: &'a C,
@@ -60,10 +60,10 @@ fn object_takes<'a, C: ReadChange>(
     match op.obj() {
         ObjRef::Root => takes(0, op.key()),
         ObjRef::Made(id) => {
-            if makes(own(change, id, place), op.key()) {
+            if makes(ancestors.find_object(id), op.key()) {
                 return true;
             }
-            makes(ancestors.find_object(id), op.key())
+            makes(own(change, id, place), op.key())
         }
     }
 }

@@ -14,6 +14,12 @@ returns-clause-found c =
     let i = id_of c.args.id in
     let clock = c.self.inside.reached in
     let table = c.self.inside.table.now in
-    let author = c.ask.ensures.past.author ∙ ap (number (words_of table.texts).authors) c.ask.ensures.actor in
-    let end = c.ask.ensures.past.end ∙ ap (λ (y : List ℕ). (reach_of clock y).end) c.ask.ensures.actor in
-    fact_below clock (facts_in table) i _ c.ask.result.0.end end c.if-id-self.false (c.at.ensures c.args.id.actor.now author) ∙ ap (λ (p : Past). ancestor_fact p.clock p.facts i) c.self.view_is
+    let author = c.ask-is_new.ensures.past.author ∙ ap (number (words_of table.texts).authors) c.ask-is_new.ensures.actor in
+    let end = c.ask-is_new.ensures.past.end ∙ ap (λ (y : List ℕ). (reach_of clock y).end) c.ask-is_new.ensures.actor in
+    fact_below clock (facts_in table) i _ c.ask-is_new.result.0.end end c.if-id-asked.false (c.at.ensures c.args.id.actor.now author) ∙ ap (λ (p : Past). ancestor_fact p.clock p.facts i) c.self.view_is
+
+pub invariant_of-self : goal.invariant_of-self
+invariant_of-self c = (c.keep.ensures c.self.inside.reached c.self.inside.table.now c.ask-is_new.ensures.past c.self.invariant.0, c.self.invariant.1, c.self.invariant.2)
+
+pub invariant_of-self-2 : goal.invariant_of-self-2
+invariant_of-self-2 c = (c.keep.ensures c.self.inside.reached c.self.inside.table.now c.ask-is_new.ensures.past c.self.invariant.0, c.self.invariant.1, c.self.invariant.2)

@@ -13,6 +13,16 @@ returns-then-same_id-clause-found c =
     let clock = c.self.inside.reached in
     let facts = facts_in c.self.inside.table.now in
     let found = c.in-Some.found in
-    let kept = subst (λ o. IfSome o (IsFound clock facts)) c.in-Some.is c.self.invariant.2 in
+    let kept = subst (λ o. IfSome o (IsFound clock facts)) c.in-Some.is c.self.invariant.1 in
     let same = same_id-true (id_of found.id) i (sym c.same_id.ensures.same ∙ c.if-same_id.true) in
+    kept ∙ ap (λ j. ancestor_fact clock facts j) same ∙ ap (λ (p : Past). ancestor_fact p.clock p.facts i) c.self.view_is
+
+pub returns-then-same_id-2-clause-found : goal.returns-then-same_id-2-clause-found
+returns-then-same_id-2-clause-found c =
+    let i = id_of c.args.id in
+    let clock = c.self.inside.reached in
+    let facts = facts_in c.self.inside.table.now in
+    let found = c.in-Some-before.found in
+    let kept = subst (λ o. IfSome o (IsFound clock facts)) c.in-Some-before.is c.self.invariant.2 in
+    let same = same_id-true (id_of found.id) i (sym c.same_id-in-Some-before.ensures.same ∙ c.if-same_id-2.true) in
     kept ∙ ap (λ j. ancestor_fact clock facts j) same ∙ ap (λ (p : Past). ancestor_fact p.clock p.facts i) c.self.view_is
