@@ -98,7 +98,7 @@ length_push (y ∷ xs) x = ap suc (length_push xs x)
 
 module _ (g : List (Hash × Node)) (marks : List Mark) (authors : List (List ℕ)) (f : ℕ → ℕ → Option Hash) (whole : WholeOf g marks authors f) (y : List ℕ) where
   pub known_at : (k : ℕ) (e : Hash × Node) → k < length g → (a : ℕ) × (number authors (get_or g k e).1.actor ≡ Some a)
-  known_at k e l = let d : Mark = record { author = 0; depth = 0; away = 0; kept = None } in ((get_or marks k d).author, whole.numbers k d e l)
+  known_at k e l = let d : Mark = record { author = 0; depth = 0; away = 0; guess = 0; kept = None } in ((get_or marks k d).author, whole.numbers k d e l)
 
   pub known_of : (C : List Member) → g ≡ nodes C → (m : Member) → Contains C m → (a : ℕ) × (number authors m.change.actor ≡ Some a)
   known_of C is m cm =

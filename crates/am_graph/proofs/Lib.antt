@@ -8,6 +8,7 @@ pub mod DistinctSeqs
 pub mod Noting
 pub mod Deepest
 pub mod Growing
+pub mod Guessing
 pub mod Naming
 pub mod Ranking
 pub mod Descent

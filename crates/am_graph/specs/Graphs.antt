@@ -4,7 +4,7 @@
 --     is_held g h       h is a hash of the graph
 use Rattle.std.specs.Ordering.{is_gt}
 use Rattle.std.specs.Prelude.{ℕ, ◌&&◌, ◌==◌, filter, ◌≡◌, ◌≢◌, ◌≤◌, ◌<◌, ◌+◌, ◌^◌, Bool, true, false, List, [], map, length, find, not, slice_index_or, All, Contains, Option, None, Some, ⊤}
-use Rattle.std.specs.List.{list_any}
+use Rattle.std.specs.List.{list_any, position}
 use lib.Pointwise.{pointwise}
 use Rattle.am_types.specs.declared.Hash.{Hash}
 use Rattle.am_types.specs.declared.Change.{Change}
@@ -16,7 +16,7 @@ use Rattle.am_types.specs.contracts.hash.HashPartialEq.TheImpl as equality
 use Rattle.std.specs.HashSet.{HashSet}
 use Rattle.std.specs.HashSet as set
 use Rattle.am_graph.specs.declared.node.Node.{Node}
-use Rattle.std.specs.Map.{lookup}
+use Rattle.std.specs.Map.{lookup, keys_of}
 use Rattle.am_graph.specs.declared.fault.Added.{Added}
 use Rattle.am_graph.specs.declared.fault.Added.TheVariants.{New, Same, Clash}
 use Rattle.am_graph.specs.declared.fault.GraphFault.{GraphFault}
@@ -35,6 +35,10 @@ is_held g h = among hash_cmp (map (λ e. e.0) g) h
 
 abbrev pub names : Hash × Node → Hash → Bool
 names e h = among hash_cmp e.1.deps h
+
+-- the place at which the graph has the hash
+abbrev pub place_in : List (Hash × Node) → Hash → Option ℕ
+place_in g h = position (equality.eq-value.it h) (keys_of g)
 
 -- each dependency is held, and no change names itself or a later one
 pub record IsSound (g : List (Hash × Node)) : Type 0 where

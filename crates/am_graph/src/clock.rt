@@ -12,6 +12,7 @@ ghost use Rattle.am_graph.specs.Graphs.{is_held, missing, ForSet, MatchFault};
 
 use crate::fault::ClockFault;
 use crate::graph::Graph;
+use crate::places::last_place;
 use crate::reach::Reach;
 use am_types::{Hash, IdRef};
 use indexmap::IndexSet;
@@ -60,7 +61,9 @@ impl Graph {
         ensures held { OnOk result (All (λ h. is_held self.now h ≡ true) heads.now) }
         ensures unknown { IfErr result (λ fault. MatchFault fault (λ h. missing self.now heads.now ≡ Some h)) }
     {
-        let table = self.parts.table(alloc, heads)?;
+        let table = self
+            .parts
+            .table(alloc, heads, last_place(&self.parts.held))?;
         let authors = self.parts.authors.clone()?;
         Ok(Clock { authors, table })
     }
@@ -71,7 +74,9 @@ impl Graph {
         ensures held { OnOk result (All (λ h. is_held self.now h ≡ true) heads.now) }
         ensures unknown { IfErr result (λ fault. MatchFault fault (λ h. missing self.now heads.now ≡ Some h)) }
     {
-        let table = self.parts.table(alloc, heads)?;
+        let table = self
+            .parts
+            .table(alloc, heads, last_place(&self.parts.held))?;
         Ok(Reached {
             authors: &self.parts.authors,
             table,

@@ -9,6 +9,7 @@ ghost use Rattle.am_types.specs.declared.Hash.{Hash};
 use crate::fault::{Added, ClockFault, GraphFault};
 use crate::node::Node;
 use crate::parts::Parts;
+use crate::places::{guess_of, place_of};
 use am_types::{ActorId, Hash, List, Twin, same_actor};
 use std::alloc::{AllocError, AllocFailed, Global};
 use std::collections::HashSet;
@@ -74,7 +75,8 @@ impl Graph {
         if self.holds(&hash) {
             return Ok(self.compared(&hash, actor, seq, start, count, deps));
         }
-        if let Some(dep) = self.first_missing(deps) {
+        let guess = guess_of(&self.parts.held, deps);
+        if let Some(dep) = self.first_missing(deps, guess) {
             return Err(GraphFault::MissingDep(dep));
         }
         let actor = actor.copy(alloc)?;
@@ -86,7 +88,7 @@ impl Graph {
             count,
             deps,
         };
-        self.join(alloc, hash, node)?;
+        self.join(alloc, hash, node, guess)?;
         Ok(Added::New)
     }
 
@@ -108,20 +110,26 @@ impl Graph {
         }
     }
 
-    /// The first of these hashes that is not held.
-    fn first_missing(&self, hashes: &[Hash]) -> Option<Hash>
+    /// The first of these hashes that is not held. They are looked for at the guess first.
+    fn first_missing(&self, hashes: &[Hash], guess: usize) -> Option<Hash>
         ensures { result ≡ missing self.now hashes.now }
     {
         for hash in hashes {
-            if !self.parts.held.contains_key(hash) {
+            let Some(_) = place_of(&self.parts.held, hash, guess) else {
                 return Some(*hash);
-            }
+            };
         }
         None
     }
 
-    /// Adds a change at the end.
-    fn join(&mut self, alloc: Global, hash: Hash, node: Node) -> Result<(), AllocError>
+    /// Adds a change at the end. Its dependencies are looked for at the guess first.
+    fn join(
+        &mut self,
+        alloc: Global,
+        hash: Hash,
+        node: Node,
+        guess: usize,
+    ) -> Result<(), AllocError>
         requires fresh { is_held self.old hash ≡ false }
         requires deps { missing self.old node.deps ≡ None }
         requires start { 1 ≤ node.start }
@@ -130,7 +138,7 @@ impl Graph {
         ensures err { OnErr result (self.new ≡ self.old) }
     {
         let author = self.parts.number(alloc, node.actor.as_slice())?;
-        let mark = self.parts.mark(alloc, &node, author)?;
+        let mark = self.parts.mark(alloc, &node, author, guess)?;
         self.parts.join(hash, node, mark)?;
         Ok(())
     }

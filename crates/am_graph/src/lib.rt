@@ -12,6 +12,7 @@ mod heads;
 mod node;
 mod parts;
 mod place;
+mod places;
 mod reach;
 mod walk;
 

@@ -8,6 +8,7 @@ ghost use Rattle.am_graph.specs.Whole.{IsWhole, IsMarkOf, Notes, lesser, authors
 ghost use Rattle.std.specs.BTreeMap.{IsUnchanged};
 
 use crate::node::Node;
+use crate::places::place_of;
 use crate::reach::{Reach, raise};
 use am_types::Hash;
 use indexmap::{IndexMap, IndexSet};
@@ -30,6 +31,8 @@ pub(crate) struct Mark {
     pub depth: u64,
     /// A bound of how many changes a walk from here visits, those with a table among them. It is 1 where a table is kept.
     pub away: u64,
+    /// Where its dependencies are looked for first. No contract speaks of it.
+    pub guess: usize,
     /// How far each author's changes go among it and its ancestors.
     pub kept: Option<Vec<Reach>>,
 }
@@ -77,8 +80,14 @@ impl Parts {
         Ok(author)
     }
 
-    /// The mark of a change that is about to join.
-    pub fn mark(&self, alloc: Global, node: &Node, author: usize) -> Result<Mark, AllocError>
+    /// The mark of a change that is about to join. Its dependencies are looked for at the guess first.
+    pub fn mark(
+        &self,
+        alloc: Global,
+        node: &Node,
+        author: usize,
+        guess: usize,
+    ) -> Result<Mark, AllocError>
         requires whole { IsWhole self.now }
         requires deps { missing self.now.held.entries node.now.deps ≡ None }
         requires author { number (authors_of self.now) node.now.actor ≡ Some author }
@@ -86,17 +95,18 @@ impl Parts {
         requires end { node.now.start + node.now.count ≤ 2 ^ 53 }
         ensures { IfOk result (λ mark. IsMarkOf self.now node.now mark) }
     {
-        let depth = self.depth_above(node.deps.as_slice());
-        let away = self.away_above(node.deps.as_slice());
+        let depth = self.depth_above(node.deps.as_slice(), guess);
+        let away = self.away_above(node.deps.as_slice(), guess);
         if away < self.step() {
             return Ok(Mark {
                 author,
                 depth,
                 away,
+                guess,
                 kept: None,
             });
         }
-        let Ok(mut table) = self.table(alloc, node.deps.as_slice()) else {
+        let Ok(mut table) = self.table(alloc, node.deps.as_slice(), guess) else {
             return Err(AllocError);
         };
         raise(
@@ -111,6 +121,7 @@ impl Parts {
             author,
             depth,
             away: 1,
+            guess,
             kept: Some(table),
         })
     }
@@ -121,7 +132,7 @@ impl Parts {
     }
 
     /// The depth of a change with these dependencies.
-    fn depth_above(&self, deps: &[Hash]) -> u64
+    fn depth_above(&self, deps: &[Hash], guess: usize) -> u64
         requires whole { IsWhole self.now }
         requires held { missing self.now.held.entries deps.now ≡ None }
         ensures depth { ForSet self.now.held.entries (λ C. (c : Change) → c.deps ≡ deps.now → result ≡ depth C c) }
@@ -129,19 +140,19 @@ impl Parts {
     {
         let mut depth = 0;
         for dep in deps {
-            let place = self.held.get_index_of(dep).unwrap();
+            let place = place_of(&self.held, dep, guess).unwrap();
             depth = depth.max(self.marks[place].depth + 1);
         }
         depth
     }
 
     /// How many changes a walk from one with these dependencies may visit, if no table is kept beside that one.
-    fn away_above(&self, deps: &[Hash]) -> u64
+    fn away_above(&self, deps: &[Hash], guess: usize) -> u64
         requires { IsWhole self.now }
     {
         let mut away: u64 = 1;
         for dep in deps {
-            if let Some(place) = self.held.get_index_of(dep) {
+            if let Some(place) = place_of(&self.held, dep, guess) {
                 away = away.saturating_add(self.marks[place].away);
             }
         }

@@ -9,6 +9,7 @@ ghost use Rattle.am_graph.specs.Walks.{waits, is_place_of, Visits, WaitBefore};
 use crate::fault::ClockFault;
 use crate::node::Node;
 use crate::parts::Parts;
+use crate::places::place_of;
 use crate::reach::{Reach, raise, raise_all};
 use am_types::Hash;
 use indexmap::IndexMap;
@@ -16,8 +17,13 @@ use std::alloc::{AllocError, Global};
 use std::collections::BTreeSet;
 
 impl Parts {
-    /// How far each author's changes go among the ancestors of these heads.
-    pub fn table(&self, alloc: Global, heads: &[Hash]) -> Result<Vec<Reach>, ClockFault>
+    /// How far each author's changes go among the ancestors of these heads, which are looked for at the guess first.
+    pub fn table(
+        &self,
+        alloc: Global,
+        heads: &[Hash],
+        guess: usize,
+    ) -> Result<Vec<Reach>, ClockFault>
         requires { IsWhole self.now }
         ensures len { IfOk result (λ table. length table.items ≡ length self.now.authors.keys) }
         ensures table { IfOk result (λ table. ForSet self.now.held.entries (λ C. IsTableOf (authors_of self.now) (ancestors C heads.now) table.items)) }
@@ -25,7 +31,7 @@ impl Parts {
         ensures unknown { IfErr result (λ fault. MatchFault fault (λ h. missing self.now.held.entries heads.now ≡ Some h)) }
     {
         let mut pending: BTreeSet<usize> = BTreeSet::new(alloc);
-        wait(&self.held, heads, &mut pending)?;
+        wait(&self.held, heads, guess, &mut pending)?;
         let mut table = blank(alloc, self.authors.len())?;
         for _ in 0..self.held.len() {
             let Some(place) = pending.pop_last() else {
@@ -61,14 +67,15 @@ impl Parts {
             end: node.start + node.count,
         };
         raise(table, mark.author, own);
-        wait(&self.held, node.deps.as_slice(), pending)
+        wait(&self.held, node.deps.as_slice(), mark.guess, pending)
     }
 }
 
-/// Puts the places of the changes with these hashes among those that wait.
+/// Puts the places of the changes with these hashes among those that wait. They are looked for at the guess first.
 fn wait(
     held: &IndexMap<Hash, Node>,
     hashes: &[Hash],
+    guess: usize,
     pending: &mut BTreeSet<usize>,
 ) -> Result<(), ClockFault>
     requires { IsSound held.now.entries }
@@ -77,7 +84,7 @@ fn wait(
     ensures unknown { IfErr result (λ fault. MatchFault fault (λ h. missing held.now.entries hashes.now ≡ Some h)) }
 {
     for hash in hashes {
-        let Some(place) = held.get_index_of(hash) else {
+        let Some(place) = place_of(held, hash, guess) else {
             return Err(ClockFault::UnknownHead(*hash));
         };
         match pending.insert(place) {
@@ -92,7 +99,7 @@ fn wait(
 fn blank(alloc: Global, authors: usize) -> Result<Vec<Reach>, AllocError>
     ensures { IfOk result (λ table. table.items ≡ replicate authors unreached) }
 {
-    let mut table = Vec::new(alloc);
+    let mut table = Vec::with_capacity(alloc, authors)?;
     for _ in 0..authors {
         table.push(Reach { seq: 0, end: 0 })?;
     }

@@ -1,19 +1,18 @@
 use Rattle.std.specs.Prelude.{slice_index_or}
 use Rattle.std.proofs.Common.{◌≡◌, ◌∙◌, [], sym, subst, true, Some, None, arith}
 use Rattle.am_graph.specs.Graphs.{is_held, missing}
-use Rattle.am_graph.proofs.Held.{is_some-held}
 use Rattle.am_graph.proofs.Sweeping.{find_at, find_none_within, within_push}
 use Rattle.am_graph.proofs.graph.Graph.first_missing.Goals as goal
 
-pub returns-then-not-contains_key : goal.returns-then-not-contains_key
-returns-then-not-contains_key c =
+pub returns-in_default : goal.returns-in_default
+returns-in_default c =
     subst (λ g. Some (slice_index_or c.args.hashes.now c.loop-hash.hash-index (record { 0 = [] })) ≡ missing g c.args.hashes.now) c.self.view_is
     (sym (find_at (is_held c.self.inside.parts.held.entries) c.args.hashes.now c.loop-hash.hash-index (record { 0 = [] }) c.loop-hash-test.true c.loop-hash.invariant
-    (sym (is_some-held _ c.self.inside.parts.held.entries) ∙ sym c.contains_key.ensures ∙ c.if-not-contains_key.true)))
+    (sym c.in_default.ensures.found)))
 
 pub loop-hash-preserved : goal.loop-hash-preserved
 loop-hash-preserved c = within_push (λ h. is_held c.self.inside.parts.held.entries h ≡ true) c.args.hashes.now c.loop-hash.hash-index (record { 0 = [] }) c.loop-hash-test.true c.loop-hash.invariant
-    (sym (is_some-held _ c.self.inside.parts.held.entries) ∙ sym c.contains_key.ensures ∙ c.if-not-contains_key.false)
+    (sym c.in-Some.ensures.found)
 
 pub returns : goal.returns
 returns c =

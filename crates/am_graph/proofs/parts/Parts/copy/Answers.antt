@@ -22,9 +22,9 @@ alike m n r = record { author = r.0; depth = r.1.0; kept = same m.kept n.kept r 
   where
     same : (o p : Option (Vec Reach Global)) → clone.ghosts.is_clone (record m { kept = o }) (record n { kept = p }) → option_map (λ v. v.items) p ≡ option_map (λ v. v.items) o
     same None None r = refl
-    same None (Some w) r = absurd r.1.1.1
-    same (Some v) None r = absurd r.1.1.1
-    same (Some v) (Some w) r = ap Some (same_from_all_zip _ v.items w.items r.1.1.1.0 (λ x y h. h))
+    same None (Some w) r = absurd r.1.1.1.1
+    same (Some v) None r = absurd r.1.1.1.1
+    same (Some v) (Some w) r = ap Some (same_from_all_zip _ v.items w.items r.1.1.1.1.0 (λ x y h. h))
 
 pub returns : goal.returns
 returns c =
