@@ -13,3 +13,6 @@ pub mod Skipped
 pub mod Spelling
 pub mod RowsSpelled
 pub mod MetasSpelled
+pub mod GivenRows
+pub mod ColumnRuns
+pub mod Gathering

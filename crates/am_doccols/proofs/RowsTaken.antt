@@ -115,7 +115,7 @@ rows_taken failed actors at f i l s shown more f' i' l' s' e names view inv at_i
 in_room : {A : Type 0} (old : Option (List A)) (xs : List A) (n m : ℕ) → old ≡ Some xs → length xs ≤ m → m + n ≤ 2 ^ 22 → IfSome old (λ zs. length zs + n ≤ 2 ^ 32)
 in_room old xs n m e l r = held old xs (λ zs. length zs + n ≤ 2 ^ 32) e (omega (arith, l, r))
 
-open_for : (actors : List (List ℕ)) (rows : List Row) (n m : ℕ) (f : FieldWriter) (i : IdWriter) (l : Option (List (Option ℕ))) (s : IdWriter) → RowsHeld actors rows f i l s → length rows + n ≤ 2 ^ 22 → succ_count rows + m ≤ 2 ^ 22 → AreOpenFor n m f i l s
+pub open_for : (actors : List (List ℕ)) (rows : List Row) (n m : ℕ) (f : FieldWriter) (i : IdWriter) (l : Option (List (Option ℕ))) (s : IdWriter) → RowsHeld actors rows f i l s → length rows + n ≤ 2 ^ 22 → succ_count rows + m ≤ 2 ^ 22 → AreOpenFor n m f i l s
 open_for actors rows n m f i l s h few few_succs =
     let place = option_map (place_of actors) in
     let fields = h.fields_are in

@@ -9,3 +9,4 @@ pub mod Writing
 pub mod Front
 pub mod MetaWriting
 pub mod Skipping
+pub mod Gathered

@@ -4,6 +4,9 @@
 
 mod fault;
 mod finished;
+mod gathered;
+mod gathered_columns;
+mod gathered_writing;
 mod laws;
 mod lent;
 mod meta;
@@ -13,13 +16,16 @@ pub mod meta_specifications;
 mod meta_writer;
 mod metas;
 mod row;
+mod row_column;
 mod row_columns;
+mod row_gatherer;
 mod row_writer;
 mod rows;
 mod unnamed;
 
 pub use am_fields::{IdCursor as SuccCursor, IndexCursor};
 pub use fault::BadRows;
+pub use gathered::GatheredRow;
 pub use laws::{canonical_metas_spell, canonical_rows_spell, one_list_of_metas, one_list_of_rows};
 pub use lent::{MetaFields, RowFields, fields_of, meta_fields_of};
 pub use meta::MetaRef;
@@ -27,5 +33,6 @@ pub use meta_writer::MetaWriter;
 pub use metas::MetaCursor;
 pub use row::RowRef;
 pub use row_columns::RowColumns;
+pub use row_gatherer::RowGatherer;
 pub use row_writer::RowWriter;
 pub use rows::RowCursor;

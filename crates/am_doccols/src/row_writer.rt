@@ -8,10 +8,13 @@ ghost use Rattle.am_colmeta.specs.Metadata.{metadata, listing, body};
 ghost use Rattle.am_doccols.specs.Columns.{written_rows};
 ghost use Rattle.am_doccols.specs.Conditions.{IsRowFor, HasRoom};
 ghost use Rattle.am_doccols.specs.Front.{HasRoomFor};
+ghost use Rattle.am_doccols.specs.Gathered.{AreGiven, rows_given};
 ghost use Rattle.std.specs.List.{AllByRecursion};
 ghost use Rattle.am_doccols.specs.Lent.{row_with};
 
 use crate::finished::columns_in;
+use crate::gathered::GatheredRow;
+use crate::gathered_writing::push_rows;
 use crate::lent::RowFields;
 use crate::rows::RowCursor;
 use am_delta::DeltaWriter;
@@ -60,7 +63,7 @@ pub fn actors_in(alloc: Global, actors: &[ActorId]) -> Result<OwnedActors, Alloc
 }
 
 // Appends ids that are lent to the columns of places and of counters.
-fn push_lent_ids(
+pub fn push_lent_ids(
     places: &mut NumberWriter,
     counters: &mut DeltaWriter,
     actors: &ListedActors<'_>,
@@ -158,6 +161,37 @@ impl RowWriter {
             &mut self.succs.places,
             &mut self.succs.counters,
             &actors,
+            succs,
+        )?;
+        self.failed = false;
+        Ok(())
+    }
+
+    /// Appends the rows, each with as many of the ids as successors as it has, as that many pushes: one column after another,
+    /// each by the rows that are alike in it.
+    pub fn push_all(
+        &mut self,
+        rows: &[GatheredRow<'_>],
+        succs: &[IdRef<'_>],
+    ) -> Result<(), AllocError>
+        requires given { AreGiven self.old.0 rows.now (map id_of succs.now) }
+        requires room { IfSome self.old.1 (λ written. HasRoomFor written (rows_given rows.now (map id_of succs.now))) }
+        ensures actors { self.new.0 ≡ self.old.0 }
+        ensures failed { IfNone self.old.1 ((self.new.1 ≡ None) × IsErr result) }
+        ensures ok { OnOk result (IfSome self.old.1 (λ written. self.new.1 ≡ Some (written ++ rows_given rows.now (map id_of succs.now)))) }
+        ensures err { OnErr result (self.new.1 ≡ None) }
+    {
+        if self.failed {
+            return Err(AllocError);
+        }
+        self.failed = true;
+        push_rows(
+            &mut self.fields,
+            &mut self.ids,
+            &mut self.lengths,
+            &mut self.succs,
+            &self.actors.lend(),
+            rows,
             succs,
         )?;
         self.failed = false;

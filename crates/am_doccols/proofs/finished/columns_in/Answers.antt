@@ -10,7 +10,7 @@ use Rattle.am_doccols.proofs.finished.columns_in.Goals as goal
 
 pub returns : goal.returns
 returns c actors rows h =
-    let f = subst (FieldsSpelled actors (row_lists rows)) (sym c.fill.ensures.fields) (c.in_ok-finish.ensures actors (row_lists rows) h.fields_are (fields_fit actors rows h.all h.few)) in
+    let f = subst (FieldsSpelled actors (row_lists rows)) (sym c.fill.ensures.fields) (c.in_ok-finish.ensures.ok actors (row_lists rows) h.fields_are (fields_fit actors rows h.all h.few)) in
     let ids = map (λ r. r.id) rows in
     let succs = flat (map (λ r. r.succs) rows) in
     let i = c.in_ok-fill.ensures.ids actors ids h.ids_are (ids_fit actors rows h.all h.few) in
