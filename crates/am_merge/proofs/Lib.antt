@@ -50,3 +50,4 @@ pub mod Bucketed
 pub mod Linked
 pub mod HasCounter
 pub mod Starting
+pub mod FirstRows

@@ -12,6 +12,7 @@ use Rattle.am_types.specs.Rows.{succs}
 use Rattle.am_places.specs.Numbered.{operation_of}
 use Rattle.am_places.specs.Sound.{HaveDistinctPreds}
 use Rattle.am_places.specs.declared.numbered.Numbered.{Numbered}
+use Rattle.am_merge.specs.Carrying.{ids_of}
 use Rattle.am_merge.specs.Naming.{Named, is_named, named_of, predecessors, references}
 use Rattle.am_merge.specs.Plans.{Event, Take, Put}
 use Rattle.am_merge.specs.Stacks.{stacked}
@@ -39,9 +40,13 @@ pushed_one xs x ws = pushed_is (xs ++ x ∷ []) ws ∙ ap (λ l. l ++ ws) (rever
 abbrev by : Named → Operation
 by n = n.operation
 
+pub named_ids : (A : List Operation) (ns : List Naming) (i : OpId) → ascending A ≡ A → HaveDistinctPreds A
+    → map named_of ns ≡ filter (is_named Root i) (predecessors A) → ids_of ns ≡ succs A i
+named_ids A ns i up d e = sym (map-map (λ (n : Named). n.operation.id) named_of ns) ∙ ap (map (λ (n : Named). n.operation.id)) e ∙ succs_named i A up d
+
 pub ids_are : (A : List Operation) (named : List Naming) (first last : ℕ) (i : OpId) → ascending A ≡ A → HaveDistinctPreds A
     → map named_of (slice_range named first last) ≡ filter (is_named Root i) (predecessors A) → ids_in named first last ≡ succs A i
-ids_are A named first last i up d e = sym (map-map (λ (n : Named). n.operation.id) named_of (slice_range named first last)) ∙ ap (map (λ (n : Named). n.operation.id)) e ∙ succs_named i A up d
+ids_are A named first last i up d e = named_ids A (slice_range named first last) i up d e
 
 pub hung_are : (A : List Operation) (ns : List Naming) (o : ObjId) (e : OpId) → map named_of ns ≡ filter (is_named o e) (references (hanging A)) → map (λ n. (named_of n).operation) ns ≡ hung A o e
 hung_are A ns o e h = sym (map-map by named_of ns) ∙ ap (map by) h ∙ hung_named o e (hanging A)
@@ -68,7 +73,7 @@ into_comes : (A : List Operation) (r : Row) (rest : ℕ → List Operation → L
 into_comes A r rest m zero y ws e t = absurd (omega arith)
 into_comes A r rest m (suc n) y ws e t = let same : n ≡ m = omega arith in simp t (ap (λ k. Put (new_row A y) ∷ walk_into A r rest k (behind A (spot_of y) ws)) same)
 
-out_comes : (A : List Operation) (m n : ℕ) (y : Operation) (ws : List Operation) → m + 1 ≡ n → walk_out A n (y ∷ ws) ≡ Put (new_row A y) ∷ walk_out A m (behind A (spot_of y) ws)
+pub out_comes : (A : List Operation) (m n : ℕ) (y : Operation) (ws : List Operation) → m + 1 ≡ n → walk_out A n (y ∷ ws) ≡ Put (new_row A y) ∷ walk_out A m (behind A (spot_of y) ws)
 out_comes A m zero y ws e = absurd (omega arith)
 out_comes A m (suc n) y ws e = let same : n ≡ m = omega arith in ap (λ k. Put (new_row A y) ∷ walk_out A k (behind A (spot_of y) ws)) same
 
@@ -146,6 +151,10 @@ top_is ns i n e l is =
 pub no_top : (ns : List Numbered) (y : Operation) (ws : List Operation) → length ns ≡ 0 → stacked ns ≡ y ∷ ws → ⊥
 no_top [] y ws l e = cc
 no_top (n ∷ ns) y ws l e = omega arith
+
+pub none_waits : (ns : List Numbered) → length ns ≡ 0 → is_some_left (stacked ns) ≡ false
+none_waits [] l = refl
+none_waits (n ∷ ns) l = absurd (omega arith)
 
 pub tops_are : (ns ms : List Numbered) (n : Numbered) (y : Operation) (ws : List Operation) → ns ≡ ms ++ n ∷ [] → stacked ns ≡ y ∷ ws → (operation_of n ≡ y) × (stacked ms ≡ ws)
 tops_are ns ms n y ws e f =

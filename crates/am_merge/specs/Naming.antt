@@ -22,7 +22,7 @@ use Rattle.am_types.specs.declared.Key.TheVariants.{Name, Head, Elem}
 use Rattle.am_types.specs.Order.{id_cmp, object_cmp, sorted_by}
 use Rattle.am_types.specs.Same.{same_id, same_object}
 use Rattle.am_types.specs.Operations.{Operation, ascending}
-use Rattle.am_types.specs.Views.{id_of, object_of}
+use Rattle.am_types.specs.Views.{id_of}
 use Rattle.am_places.specs.Numbered.{operation_of}
 use Rattle.am_places.specs.Sound.{HaveDistinctPreds}
 use Rattle.am_merge.specs.Walk.{hanging}
@@ -34,8 +34,13 @@ pub record Named : Type 0 where
   pub id : OpId
   pub operation : Operation
 
+-- the object of an operation, or the root
+abbrev pub object_if : Bool → Operation → ObjId
+object_if true x = x.op.obj
+object_if false x = Root
+
 abbrev pub named_of : Naming → Named
-named_of n = record { obj = object_of n.obj; id = id_of n.id; operation = operation_of n.operation }
+named_of n = record { obj = object_if n.hangs (operation_of n.operation); id = id_of n.id; operation = operation_of n.operation }
 
 abbrev pub key_cmp : ObjId × OpId → ObjId × OpId → Ordering
 key_cmp = then_cmp (on (λ k. k.1) id_cmp) (on (λ k. k.0) object_cmp)

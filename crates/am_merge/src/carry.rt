@@ -21,7 +21,7 @@ ghost use Rattle.am_merge.specs.Stops.{copies, event_of, events_of};
 
 use crate::naming::Naming;
 use crate::stops::Stop;
-use am_doccols::{RowCursor, RowFields, RowRef, RowWriter, SuccCursor};
+use am_doccols::{RowCursor, RowFields, RowGatherer, RowRef, SuccCursor};
 use am_fields::text_in;
 use am_places::Numbered;
 use am_types::{ActorId, Bytes, IdRef, compare_ids};
@@ -122,12 +122,12 @@ fn merged<'a>(
     Ok(ids)
 }
 
-// The row of a new operation.
-fn put_row(
+/// The row of a new operation.
+pub fn put_row<'a>(
     alloc: Global,
-    writer: &mut RowWriter,
-    x: &Numbered<'_>,
-    added: &[Naming<'_>],
+    writer: &mut RowGatherer<'a>,
+    x: &Numbered<'a>,
+    added: &[Naming<'a>],
 ) -> Result<(), AllocError>
     requires row { IsRowFor writer.old.0 (document.row_of (ids_of added.now) (operation_of x.now)) }
     requires room { IfSome writer.old.1 (λ rows. HasRoom rows (ids_of added.now)) }
@@ -142,7 +142,7 @@ fn put_row(
 // An old row, with more successors.
 fn push_extended(
     alloc: Global,
-    writer: &mut RowWriter,
+    writer: &mut RowGatherer<'_>,
     row: RowRef<'_>,
     added: &[Naming<'_>],
 ) -> Result<(), AllocError>
@@ -153,14 +153,14 @@ fn push_extended(
 {
     let fields = row.fields();
     let succs = merged(alloc, row.succs, added)?;
-    writer.push_lent(fields, succs.as_slice())?;
+    writer.push_apart(fields, succs.as_slice())?;
     Ok(())
 }
 
 // The next old row, with more successors.
 fn extend_row(
     alloc: Global,
-    writer: &mut RowWriter,
+    writer: &mut RowGatherer<'_>,
     from: &mut RowCursor<'_>,
     added: &[Naming<'_>],
 ) -> Result<(), AllocError>
@@ -196,12 +196,12 @@ fn added_at<'t, 'a>(named: &'t [Naming<'a>], stop: &Stop<'_>) -> &'t [Naming<'a>
 }
 
 // What happens at a stop.
-fn at_stop(
+fn at_stop<'a>(
     alloc: Global,
-    writer: &mut RowWriter,
+    writer: &mut RowGatherer<'a>,
     from: &mut RowCursor<'_>,
-    named: &[Naming<'_>],
-    stop: &Stop<'_>,
+    named: &[Naming<'a>],
+    stop: &Stop<'a>,
 ) -> Result<(), AllocError>
     requires { CanCarry writer.old.0 writer.old.1 (event_of named.now stop.now ∷ []) from.old }
     ensures actors { writer.new.0 ≡ writer.old.0 }
@@ -222,7 +222,11 @@ fn at_stop(
 }
 
 // So many rows are copied.
-fn copy_rows(writer: &mut RowWriter, from: &mut RowCursor<'_>, n: u64) -> Result<(), AllocError>
+fn copy_rows(
+    writer: &mut RowGatherer<'_>,
+    from: &mut RowCursor<'_>,
+    n: u64,
+) -> Result<(), AllocError>
     requires { CanCarry writer.old.0 writer.old.1 (copies n) from.old }
     ensures actors { writer.new.0 ≡ writer.old.0 }
     ensures ok { OnOk result (IfSome writer.old.1 (λ rows. writer.new.1 ≡ Some (rows ++ carried (copies n) from.old))) }
@@ -236,12 +240,12 @@ fn copy_rows(writer: &mut RowWriter, from: &mut RowCursor<'_>, n: u64) -> Result
 }
 
 // The rows up to a stop, and what happens there.
-fn carry_to(
+fn carry_to<'a>(
     alloc: Global,
-    writer: &mut RowWriter,
+    writer: &mut RowGatherer<'a>,
     from: &mut RowCursor<'_>,
-    named: &[Naming<'_>],
-    stop: &Stop<'_>,
+    named: &[Naming<'a>],
+    stop: &Stop<'a>,
 ) -> Result<(), AllocError>
     requires { CanCarry writer.old.0 writer.old.1 (copies stop.now.skip ++ event_of named.now stop.now ∷ []) from.old }
     ensures actors { writer.new.0 ≡ writer.old.0 }
@@ -254,12 +258,12 @@ fn carry_to(
 }
 
 // The rows that the stops make of those of the cursor are written; behind the last stop, so many rows are copied.
-fn carry_all(
+fn carry_all<'a>(
     alloc: Global,
-    writer: &mut RowWriter,
+    writer: &mut RowGatherer<'a>,
     from: &mut RowCursor<'_>,
-    named: &[Naming<'_>],
-    stops: &[Stop<'_>],
+    named: &[Naming<'a>],
+    stops: &[Stop<'a>],
     rest: u64,
 ) -> Result<(), AllocError>
     requires start { writer.old.1 ≡ Some [] }
@@ -277,19 +281,19 @@ fn carry_all(
 
 /// The metadata and the body of the columns of the rows that the stops make of those of the cursor; behind the last stop, so
 /// many rows are copied. Places name these actors.
-pub fn carried_text(
+pub fn carried_text<'a>(
     alloc: Global,
     actors: &[ActorId],
     rows: &RowCursor<'_>,
-    named: &[Naming<'_>],
-    stops: &[Stop<'_>],
+    named: &[Naming<'a>],
+    stops: &[Stop<'a>],
     rest: u64,
 ) -> Result<(Bytes, Bytes), AllocError>
     requires { CanCarry actors.now (Some []) (events_of named.now stops.now ++ copies rest) rows.now }
     ensures metadata { IfOk result (λ text. text.0 ≡ metadata (listing (written_rows actors.now (carried (events_of named.now stops.now ++ copies rest) rows.now)))) }
     ensures body { IfOk result (λ text. text.1 ≡ body (written_rows actors.now (carried (events_of named.now stops.now ++ copies rest) rows.now))) }
 {
-    let mut writer = RowWriter::new(alloc, actors)?;
+    let mut writer = RowGatherer::new(alloc, actors)?;
     let mut from = rows.again();
     // (no way out lets go of the writer, whose proof would take long)
     let all = carry_all(alloc, &mut writer, &mut from, named, stops, rest);

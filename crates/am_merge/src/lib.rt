@@ -7,6 +7,7 @@ mod buckets;
 mod carry;
 mod counters;
 mod documents;
+mod fresh;
 mod front;
 mod guide;
 mod laws;

@@ -16,14 +16,19 @@ use am_types::actions::DELETE;
 use am_types::{IdRef, Key, ObjRef, compare_actors, compare_objects};
 use std::alloc::{AllocError, Global};
 use std::cmp::Ordering;
+use std::mem::size_of;
 
-/// An added operation beside what it names: an element of an object, or a predecessor.
+/// An added operation beside what it names: an element of an object, or a predecessor. There is one for nearly each operation,
+/// so it is to stay small.
 #[derive(Clone, Copy)]
 pub struct Naming<'a> {
-    pub obj: ObjRef<'a>,
+    /// Whether it is an element, of the operation's object; a predecessor is looked up by its id alone, as if in the root.
+    pub hangs: bool,
     pub id: IdRef<'a>,
     pub operation: Numbered<'a>,
 }
+
+const _: () = prove!(size_of::<Naming<'static>>() <= 56);
 
 /// Added operations by their predecessors, and those that name elements by these; and where to look for what.
 #[derive(Drop)]
@@ -44,7 +49,7 @@ fn push_predecessors<'a>(all: &mut Vec<Naming<'a>>, x: Numbered<'a>) -> Result<(
     let preds = x.op.preds.as_slice();
     for i in 0..preds.len() {
         all.push(Naming {
-            obj: ObjRef::Root,
+            hangs: false,
             id: preds[i].lend(),
             operation: x,
         })?;
@@ -72,7 +77,7 @@ fn push_reference<'a>(all: &mut Vec<Naming<'a>>, x: Numbered<'a>) -> Result<(), 
 {
     if let Key::Elem(id) = &x.op.key {
         all.push(Naming {
-            obj: x.op.obj.lend(),
+            hangs: true,
             id: id.lend(),
             operation: x,
         })?;
@@ -139,18 +144,30 @@ pub fn references<'a>(
     Ok(all)
 }
 
+// The object of the element, or the root.
+fn object_of<'a>(n: &Naming<'a>) -> ObjRef<'a>
+    ensures { object_of result ≡ (named_of n.now).obj }
+{
+    if n.hangs {
+        return n.operation.op.obj.lend();
+    }
+    ObjRef::Root
+}
+
 // By the actor of the id, then by object.
+#[inline(never)]
 fn compare_rest(n: &Naming<'_>, obj: ObjRef<'_>, id: IdRef<'_>) -> Ordering
     ensures { result ≡ ordering_then (bytes_cmp (named_of n.now).id.actor (id_of id.entry).actor) (object_cmp (named_of n.now).obj (object_of obj.entry)) }
 {
     match compare_actors(n.id.actor, id.actor) {
         Ordering::Less => Ordering::Less,
-        Ordering::Equal => compare_objects(n.obj, obj),
+        Ordering::Equal => compare_objects(object_of(n), obj),
         Ordering::Greater => Ordering::Greater,
     }
 }
 
 // By the id that is named, then by object. Counters tell most.
+#[inline(always)]
 fn compare_named(n: &Naming<'_>, obj: ObjRef<'_>, id: IdRef<'_>) -> Ordering
     ensures { result ≡ key_cmp (named_key (named_of n.now)) (object_of obj.entry, id_of id.entry) }
 {
@@ -173,7 +190,7 @@ impl<'a> HasCounter for Naming<'a> {
     }
 
     fn compare(&self, other: &Self) -> Ordering {
-        compare_named(self, other.obj, other.id)
+        compare_named(self, object_of(other), other.id)
     }
 }
 
@@ -186,6 +203,7 @@ pub fn sort_namings(all: &mut Vec<Naming<'_>>) -> Result<(), AllocError>
 }
 
 // What names a lesser id, or this one in an object before.
+#[inline(always)]
 fn names_less(n: &Naming<'_>, obj: ObjRef<'_>, id: IdRef<'_>) -> bool
     ensures { result ≡ is_lt (key_cmp (named_key (named_of n.now)) (object_of obj.entry, id_of id.entry)) }
 {
@@ -193,6 +211,7 @@ fn names_less(n: &Naming<'_>, obj: ObjRef<'_>, id: IdRef<'_>) -> bool
 }
 
 // What names this id, or what is before it.
+#[inline(always)]
 fn names_up_to(n: &Naming<'_>, obj: ObjRef<'_>, id: IdRef<'_>) -> bool
     ensures { result ≡ is_le (key_cmp (named_key (named_of n.now)) (object_of obj.entry, id_of id.entry)) }
 {
@@ -200,6 +219,7 @@ fn names_up_to(n: &Naming<'_>, obj: ObjRef<'_>, id: IdRef<'_>) -> bool
 }
 
 // Where what names less ends, if that is a few steps behind a place, and whether the id is named there.
+#[inline(always)]
 fn seam_near(
     table: &[Naming<'_>],
     near: usize,
@@ -232,6 +252,7 @@ fn seam_near(
 }
 
 // Up to where a table names this id, from its first place on: each place that does is looked at.
+#[inline(always)]
 fn end_from(table: &[Naming<'_>], first: usize, obj: ObjRef<'_>, id: IdRef<'_>) -> usize
     requires { first ≤ length table.now }
     ensures order { first ≤ result }

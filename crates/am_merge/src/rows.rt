@@ -16,6 +16,7 @@ ghost use Rattle.am_merge.specs.declared.naming.Naming.{Naming};
 
 use crate::added::{added_operations, beginning};
 use crate::carry::carried_text;
+use crate::fresh::fresh_text;
 use crate::guide::Guide;
 use crate::naming::{Tables, predecessors, references, sort_namings};
 use crate::stops::Walk;
@@ -117,6 +118,9 @@ fn text_with<'a>(
     ensures body { IfOk result (λ text. text.1 ≡ body (written_rows actors.now (carried (walked (map operation_of operations.now) rows.now 4194304 (beginning (map operation_of operations.now))) rows.now))) }
 {
     let tables = tables_of(alloc, operations)?;
+    if rows.left() == 0 {
+        return fresh_text(alloc, actors, operations, &tables);
+    }
     walked_text(alloc, actors, rows, operations, &tables)
 }
 

@@ -98,7 +98,7 @@ fn walk_rest<'a>(
     Ok(())
 }
 
-/// Walks over the rows. At most `left` operations come. Where there are no rows, no counters are gathered.
+/// Walks over the rows. At most `left` operations come.
 pub fn walk_rows<'a>(
     alloc: Global,
     walk: &mut Walk<'a>,
@@ -109,10 +109,6 @@ pub fn walk_rows<'a>(
     ensures { OnOk result ((A : List Operation) → AreTables A tables.now
         → done_in tables.now.named.items walk.new ≡ done_in tables.now.named.items walk.old ++ walked A rows.now walk.old.left (waiting_of walk.old)) }
 {
-    if rows.left() == 0 {
-        put_rest(walk, tables)?;
-        return Ok(());
-    }
     let named = counters_of(alloc, tables)?;
     let mut rest = rows.again();
     walk_rest(walk, tables, named.as_slice(), &mut rest)
