@@ -72,23 +72,38 @@ fn compare_few(a: &[u8], b: &[u8]) -> Ordering
     }
 }
 
-/// The order of bytes: one after another, and fewer before those that they begin. Most that are compared are few, or differ
-/// soon; hashes have 32 bytes, and actors mostly 16.
-pub fn compare_bytes(a: &[u8], b: &[u8]) -> Ordering
+// The order of bytes that begin alike. Actors and hashes that do are mostly the same.
+fn compare_alike(a: &[u8], b: &[u8]) -> Ordering
     ensures { result ≡ bytes_cmp a.now b.now }
 {
     if a.len() > 32 && b.len() > 32 {
         return a.cmp(b);
     }
+    if a.len() >= 16 && same_actor(a, b) {
+        return Ordering::Equal;
+    }
     compare_few(a, b)
 }
 
+/// The order of bytes: one after another, and fewer before those that they begin. Mostly the first tell it.
+#[inline(always)]
+pub fn compare_bytes(a: &[u8], b: &[u8]) -> Ordering
+    ensures { result ≡ bytes_cmp a.now b.now }
+{
+    match (a.split_first(), b.split_first()) {
+        (Some((x, _)), Some((y, _))) => match x.cmp(y) {
+            Ordering::Less => Ordering::Less,
+            Ordering::Equal => compare_alike(a, b),
+            Ordering::Greater => Ordering::Greater,
+        },
+        _ => compare_few(a, b),
+    }
+}
+
 /// The order of actors, which is that of their bytes.
+#[inline(always)]
 pub fn compare_actors(a: &[u8], b: &[u8]) -> Ordering
     ensures { result ≡ bytes_cmp a.now b.now }
 {
-    if same_actor(a, b) {
-        return Ordering::Equal;
-    }
     compare_bytes(a, b)
 }

@@ -22,12 +22,14 @@ impl Ord for Hash {
 
     ghost matches_eq = { λ a b. texts_ties a.0 b.0 };
 
+    #[inline(always)]
     fn cmp(&self, other: &Hash) -> Ordering {
         compare_bytes(&self.0, &other.0)
     }
 }
 
-// The first bytes of a digest tell as much to a table as all of them.
+// The first bytes of a digest tell as much to a table as all of them. Hashes that others name needn't be digests: no table
+// that hashes is to have them as keys.
 impl hash::Hash for Hash {
     ghost use Rattle.std.proofs.Common.{rules};
     ghost use Rattle.std.specs.Cmp.Rules.{hashing};
