@@ -49,7 +49,8 @@ pub fn finish_deltas(
     Ok(())
 }
 
-/// The column of flags, as `finish_plain` gives it, with the same errors.
+/// The column of flags, as `finish_plain` gives it. An error says that memory was wanted, now or before: then the bytes stay.
+/// The writer is left with nothing pushed.
 pub fn finish_plain(
     alloc: Global,
     writer: &mut FlagWriter,
@@ -65,7 +66,8 @@ pub fn finish_plain(
     Ok(())
 }
 
-/// The column of flags, as `finish_maybe` gives it, with the same errors.
+/// The column of flags, as `finish_maybe` gives it. An error says that memory was wanted, now or before: then the bytes stay.
+/// The writer is left with nothing pushed.
 pub fn finish_maybe(
     alloc: Global,
     writer: &mut FlagWriter,

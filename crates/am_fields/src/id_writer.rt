@@ -113,7 +113,8 @@ impl IdWriter {
     }
 
     /// The column of places and that of counters, each in its one canonical spelling, into bytes that are there. An error
-    /// says that memory was wanted, now or before by either writer; else both are left with nothing pushed.
+    /// says that memory was wanted, now or before by either writer; what writers and bytes have then isn't told. Else both
+    /// are left with nothing pushed.
     pub fn finish(
         &mut self,
         alloc: Global,

@@ -65,6 +65,7 @@ pub use messages::MessageColumn;
 pub use number_writer::NumberWriter;
 pub use numbers::NumberColumn;
 pub use objects::ObjectColumns;
+pub use places::{key_counter, key_name, key_place, object_counter, object_place};
 pub use text_writer::TextWriter;
 pub use texts::TextColumn;
 pub use times::TimeColumn;

@@ -9,7 +9,7 @@ ghost use Rattle.am_fields.specs.Layout.{object_actor, object_counter as counter
 use crate::listed::ListedActors;
 use am_types::{KeyRef, ObjRef};
 
-// The place of the actor of an object.
+/// The place of the actor of an object among these actors; none of the root.
 pub fn object_place(actors: &ListedActors<'_>, object: ObjRef<'_>) -> Option<u64>
     ensures { result ≡ option_map (place_of actors.now) (object_actor (object_of object.entry)) }
 {
@@ -19,7 +19,7 @@ pub fn object_place(actors: &ListedActors<'_>, object: ObjRef<'_>) -> Option<u64
     }
 }
 
-// The counter of an object.
+/// The counter of an object; none of the root.
 pub fn object_counter(object: ObjRef<'_>) -> Option<u64>
     ensures { result ≡ counter_of_object (object_of object.entry) }
 {
@@ -29,7 +29,7 @@ pub fn object_counter(object: ObjRef<'_>) -> Option<u64>
     }
 }
 
-// The place of the actor of a key.
+/// The place of the actor of an element's key among these actors; none of another key.
 pub fn key_place(actors: &ListedActors<'_>, key: KeyRef<'_>) -> Option<u64>
     ensures { result ≡ option_map (place_of actors.now) (key_actor (key_of key.entry)) }
 {
@@ -40,7 +40,7 @@ pub fn key_place(actors: &ListedActors<'_>, key: KeyRef<'_>) -> Option<u64>
     }
 }
 
-// The counter of a key.
+/// The counter of an element's key, 0 at the front of a list, none at a name.
 pub fn key_counter(key: KeyRef<'_>) -> Option<i64>
     requires { IsKey (key_of key) }
     ensures value { result ≡ counter_of_key (key_of key.entry) }
@@ -53,7 +53,7 @@ pub fn key_counter(key: KeyRef<'_>) -> Option<i64>
     }
 }
 
-// The name of a key.
+/// The name of a key, if it is one.
 pub fn key_name(key: KeyRef<'_>) -> Option<&str>
     ensures { option_map (λ s. s.now) result ≡ key_string (key_of key.entry) }
 {

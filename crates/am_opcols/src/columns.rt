@@ -11,7 +11,7 @@ ghost use Rattle.am_fields.specs.Layout.{id_actor, id_counter, key_counter as co
 use crate::cells::Cell;
 use crate::counting::count_text;
 use am_delta::DeltaList;
-use am_fields::{ListedActors, TextWriter};
+use am_fields::{ListedActors, TextWriter, key_name};
 use am_flags::FlagWriter;
 use am_runs::{UnsignedItem, push_list};
 use am_types::{Bytes, IdRef, KeyRef, ReadOp};
@@ -72,17 +72,6 @@ pub fn push_key_counters<O: ReadOp>(
         room.push(key_counter(op.key()))?;
     }
     room.push_to(out)
-}
-
-// The name of a key.
-fn key_name(key: KeyRef<'_>) -> Option<&str>
-    ensures { option_map (λ s. s.now) result ≡ key_string (key_of key.entry) }
-{
-    match key {
-        KeyRef::Name(name) => Some(name),
-        KeyRef::Head => None,
-        KeyRef::Elem(_) => None,
-    }
 }
 
 /// The column of the names of keys.
