@@ -43,7 +43,7 @@ fn hashes_of(alloc: Global, bytes: &[u8], count: u64) -> Result<List<Hash>, Allo
     requires { length bytes.now ≡ 32 * count }
     ensures { IfOk result (λ hashes. hashes ≡ hashes_in count bytes.now) }
 {
-    let mut hashes = List::new(alloc);
+    let mut hashes = Vec::with_capacity(alloc, count as usize)?;
     let mut rest = bytes;
     let mut left = count;
     while left > 0 {
@@ -52,7 +52,7 @@ fn hashes_of(alloc: Global, bytes: &[u8], count: u64) -> Result<List<Hash>, Allo
         rest = more;
         left -= 1;
     }
-    Ok(hashes)
+    Ok(List::from(hashes))
 }
 
 // The actor, owned, which shares its bytes with those that came before.
@@ -129,11 +129,16 @@ fn preds_in(
     requires { AllByRecursion IsWithin preds.old }
     ensures { IfOk result (λ copy. copy ≡ preds.old) }
 {
-    let mut copy = List::new(alloc);
+    // (most operations have one at most, and what grows has room for four)
+    let Some(first) = preds.next() else {
+        return Ok(List::new(alloc));
+    };
+    let mut copy = Vec::with_capacity(alloc, 1)?;
+    copy.push(id_in(alloc, actors, first)?)?;
     while let Some(id) = preds.next() {
         copy.push(id_in(alloc, actors, id)?)?;
     }
-    Ok(copy)
+    Ok(List::from(copy))
 }
 
 // Appends an operation, owned. It is made where it is appended, since to hand it on costs as much as to copy its fields.
