@@ -10,6 +10,7 @@ pub mod Outcomes
 pub mod Fresh
 pub mod Places
 pub mod RunLaws
+pub mod Lengthened
 pub mod TableLaws
 pub mod Covered
 pub mod Adding

@@ -15,7 +15,7 @@ use Rattle.am_laws.proofs.Ancestry.{Contains-filter}
 use Rattle.am_fits.specs.declared.runs.Run.{Run}
 use Rattle.am_fits.specs.declared.spans.Span.{Span}
 use Rattle.am_fits.specs.declared.table.IdKey.{IdKey}
-use Rattle.am_fits.specs.Runs.{key_at, keys_from, span_keys, keys_of, runs_in, AreNew, Apart, HasPlace, IsEntered, run_below, runs_below, IsRun, AreRuns}
+use Rattle.am_fits.specs.Runs.{key_at, keys_from, span_keys, keys_of, runs_in, AreNew, Apart, HasPlace, IsEntered, Joins, run_below, runs_below, IsRun, AreRuns}
 use Rattle.am_fits.proofs.Places.{get_left, get_right, get_either, get_take, get_from_take, pairs_map, contains_map, both_same}
 
 -- ---- keys
@@ -32,7 +32,7 @@ key_get a c (suc n) (suc j) l =
     let e : c + 1 + j ≡ c + suc j = omega arith in
     again ∙ ap (λ k. Some (key_at a k)) e
 
-key_from : (a c n j : ℕ) (k : IdKey) → slice_get (keys_from a c n) j ≡ Some k → (j < n) × (k ≡ key_at a (c + j))
+pub key_from : (a c n j : ℕ) (k : IdKey) → slice_get (keys_from a c n) j ≡ Some k → (j < n) × (k ≡ key_at a (c + j))
 key_from a c n j k e =
     let within = slice_get_within (keys_from a c n) j k e in
     let long = length-keys a c n in
@@ -164,7 +164,7 @@ none_there rs c n r pairs m at above low end p h =
 
 -- ---- a run joins
 
-run_stays : (keys more : List IdKey) (a : ℕ) (r : Run) → IsRun keys a r → IsRun (keys ++ more) a r
+pub run_stays : (keys more : List IdKey) (a : ℕ) (r : Run) → IsRun keys a r → IsRun (keys ++ more) a r
 run_stays keys more a r h = record { some = h.some; each = λ j l. get_left keys more (r.first + j) (key_at a (r.start + j)) (h.each j l) }
 
 pairs_insert : (rs : List Run) (at : ℕ) (r : Run) → at ≤ length rs → AllPairs Apart rs
@@ -333,7 +333,7 @@ runs_kept rss a old new l at same b = elim (cases_eq b a) [
   | inr n ↦ runs_set_other rss a new b n
 ]
 
--- a run was entered among those of an author
-pub entered_at : (rss : List (Vec Run)) (a : ℕ) (old new : Vec Run) (r : Run) → a < length rss → old ≡ get_or rss a old → IsEntered old.items r new.items → IsEntered (runs_in rss a) r (runs_in (set rss a new) a)
-entered_at rss a old new r l at e =
-    subst (λ xs. IsEntered xs r (runs_in (set rss a new) a)) (sym (runs_at rss a old l at)) (subst (IsEntered old.items r) (sym (runs_set rss a new l)) e)
+-- a run joined those of an author
+pub joins_at : (rss : List (Vec Run)) (a : ℕ) (old new : Vec Run) (r : Run) → a < length rss → old ≡ get_or rss a old → Joins old.items r new.items → Joins (runs_in rss a) r (runs_in (set rss a new) a)
+joins_at rss a old new r l at e =
+    subst (λ xs. Joins xs r (runs_in (set rss a new) a)) (sym (runs_at rss a old l at)) (subst (Joins old.items r) (sym (runs_set rss a new l)) e)

@@ -17,7 +17,7 @@ use Rattle.am_fits.specs.declared.table.IdKey.{IdKey}
 use Rattle.am_fits.specs.declared.table.Kept.{Kept}
 use Rattle.am_fits.specs.declared.table.Table.{Table}
 use Rattle.am_fits.specs.Facts.{facts, fact_with}
-use Rattle.am_fits.specs.Runs.{key_at, keys_from, keys_of, runs_in, runs_below, AreNew, Apart, HasPlace, IsEntered, IsRun, AreRuns}
+use Rattle.am_fits.specs.Runs.{key_at, keys_from, keys_of, runs_in, runs_below, AreNew, Apart, HasPlace, Joins, IsRun, AreRuns}
 use Rattle.am_fits.specs.Tables.{entries_in, facts_in, IsTable, KeepsEach}
 use Rattle.am_fits.specs.Told.{own}
 use Rattle.am_fits.specs.Words.{Words, WordsGrow, words_of, entry_in, fact_in, IsKept, AreKept}
@@ -26,7 +26,8 @@ use Rattle.am_fits.proofs.Interned.{are_kept_stay, entries_same}
 use Rattle.am_fits.proofs.Lookups.{looked_up, same_key-true, same_key_itself}
 use Rattle.am_fits.proofs.OwnOperations.{own_get, length-operations}
 use Rattle.am_fits.proofs.Places.{zip-append, zip-take, zip_get, zip_key, lookup_at, lookup_no, not_there}
-use Rattle.am_fits.proofs.RunLaws.{length-keys, keys_push, one_place, runs_entered, runs_cut}
+use Rattle.am_fits.proofs.RunLaws.{length-keys, keys_push, one_place, runs_cut}
+use Rattle.am_fits.proofs.Lengthened.{runs_joined}
 
 -- the places of runs are those of operations
 pub runs_low : (keys : List IdKey) (rs : ℕ → List Run) (a : ℕ) → AreRuns keys rs → length keys < 2 ^ 64 → All (λ r. r.first + r.count < 2 ^ 64) (rs a)
@@ -139,7 +140,7 @@ module _ (t u : Table) (is : IsTable t) (c : Change) (author : ℕ) (run : Run) 
     (spans : u.spans.items ≡ t.spans.items ++ record { author = author; start = c.start; count = length c.ops } ∷ [])
     (fresh : AreNew (keys_of t.spans.items) (record { author = author; start = c.start; count = length c.ops })) (some : 1 ≤ length c.ops)
     (start : run.start ≡ c.start) (first : run.first ≡ length t.kept.items) (count : run.count ≡ length c.ops)
-    (entered : IsEntered (runs_in t.runs.items author) run (runs_in u.runs.items author)) (others : (a : ℕ) → (a ≡ author → ⊥) → runs_in u.runs.items a ≡ runs_in t.runs.items a) where
+    (entered : Joins (runs_in t.runs.items author) run (runs_in u.runs.items author)) (others : (a : ℕ) → (a ≡ author → ⊥) → runs_in u.runs.items a ≡ runs_in t.runs.items a) where
   abbrev span : Span
   span = record { author = author; start = c.start; count = length c.ops }
 
@@ -163,7 +164,7 @@ module _ (t u : Table) (is : IsTable t) (c : Change) (author : ℕ) (run : Run) 
           (All-append (IsKept (words_of u.texts)) (entries_in t) (zip (keys_from author c.start (length c.ops)) keeps.rest) (are_kept_stay (words_of t.texts) (words_of u.texts) grow (entries_in t) is.kept).each keeps.kept.each);
     };
     runs = subst (λ ks. AreRuns ks (runs_in u.runs.items)) (sym keys_joined)
-        (runs_entered old_keys (runs_in t.runs.items) (runs_in u.runs.items) span run is.runs fresh some start (first ∙ is.even) count entered others);
+        (runs_joined old_keys (runs_in t.runs.items) (runs_in u.runs.items) span run is.runs fresh some start (first ∙ is.even) count entered others);
   }
 
   pub joined_facts : facts_in u ≡ facts_in t ++ facts (operations c)

@@ -3,9 +3,12 @@
 --     HasPlace rs c p      one of the runs rs has the counter c at the place p
 --     AreRuns keys rs      rs a are the runs of the author a among the keys, ascending
 --     IsEntered rs r new   new is rs with the run r where its counters belong
+--     GoesOn last r longer longer is the run last and behind it the run r, which goes on where last ends
+--     IsLengthened rs r new     new is rs, the last of which goes on with the run r
+--     Joins rs r new       the one or the other
 --     runs_below n rs      of the runs rs what is at places below n
 --     AreNew keys s        no key of the span s is among the keys
-use Rattle.std.specs.Prelude.{ℕ, zero, suc, ◌≡◌, ◌<◌, ◌≤◌, ◌+◌, ◌-◌, min, nat_lt, List, [], ◌∷◌, flat_map, map, filter, length, Some, All, AllPairs, Contains, slice_get, slice_index_or}
+use Rattle.std.specs.Prelude.{ℕ, zero, suc, ◌≡◌, ◌<◌, ◌≤◌, ◌+◌, ◌-◌, ◌⊎◌, min, nat_lt, List, [], ◌∷◌, flat_map, map, filter, length, Some, All, AllPairs, Contains, slice_get, slice_index_or, set}
 use Rattle.std.specs.List.{insert}
 use Rattle.std.specs.Global.{Vec}
 use Rattle.am_fits.specs.declared.runs.Run.{Run}
@@ -48,6 +51,24 @@ pub record IsEntered (rs : List Run) (r : Run) (new : List Run) : Type 0 where
   pub is : new ≡ insert rs at r
   pub below : (k : ℕ) (d : Run) → k < at → (slice_index_or rs k d).start ≤ r.start
   pub above : (k : ℕ) (d : Run) → at ≤ k → k < length rs → r.start < (slice_index_or rs k d).start
+
+-- longer is the run last and behind it the run r, which goes on where last ends
+pub record GoesOn (last r longer : Run) : Type 0 where
+  pub start : longer.start ≡ last.start
+  pub first : longer.first ≡ last.first
+  pub count : longer.count ≡ last.count + r.count
+  pub counters : last.start + last.count ≡ r.start
+  pub places : last.first + last.count ≡ r.first
+
+pub record IsLengthened (rs : List Run) (r : Run) (new : List Run) : Type 0 where
+  pub at : ℕ
+  pub last : at + 1 ≡ length rs
+  pub longer : Run
+  pub is : new ≡ set rs at longer
+  pub goes_on : (d : Run) → GoesOn (slice_index_or rs at d) r longer
+
+abbrev pub Joins : List Run → Run → List Run → Type 0
+Joins rs r new = IsEntered rs r new ⊎ IsLengthened rs r new
 
 abbrev pub run_below : ℕ → Run → Run
 run_below n r = record { start = r.start; first = r.first; count = min r.count (n - r.first) }

@@ -1,5 +1,6 @@
 //! The operations of the ancestors of a change.
-ghost use Rattle.std.specs.Prelude.{◌≡◌, ℕ, List, Contains, option_map, IfSome};
+ghost use Rattle.std.specs.Prelude.{◌≡◌, ◌+◌, ◌%◌, ◌⊎◌, ℕ, List, All, Contains, cond, true, false, set, option_map, IfSome, IfNone};
+ghost use Rattle.am_types.specs.Same.{same_bytes};
 ghost use Rattle.am_types.specs.Views.{id_of};
 ghost use Rattle.am_graph.specs.Clocks.{reach_of};
 ghost use Rattle.am_graph.specs.Reaches.{number};
@@ -17,7 +18,7 @@ use am_graph::Reached;
 use am_types::{IdRef, same_actor, same_id};
 use std::marker::Model;
 
-/// So many actors are kept beside the one who was asked for last.
+/// So many actors are kept, those who were found out last.
 const OTHERS: usize = 6;
 
 /// What was found out about an actor.
@@ -38,12 +39,12 @@ pub(crate) struct Found<'a> {
     pub seen: Option<Seen<'a>>,
 }
 
-/// What was found out about the actor who was asked for last, and about some who were asked for before.
+/// What was found out about the actors who were found out last, and about the one who was asked for last.
 #[derive(Clone, Copy, Debug)]
 pub(crate) struct Recent<'a> {
     pub last: Asked<'a>,
     pub others: [Asked<'a>; OTHERS],
-    /// Which of the others makes way for the next one.
+    /// Which of them makes way for the next one.
     pub turn: usize,
 }
 
@@ -92,6 +93,7 @@ impl<'a> Ancestors<'a> {
     }
 
     /// The ancestors' operation with the id of an object.
+    #[inline(always)]
     pub fn find_object(&mut self, id: IdRef<'a>) -> Option<Seen<'a>>
         ensures same { self.new ≡ self.old }
         ensures found { option_map fact_shown result ≡ ancestor_fact self.old.clock self.old.facts (id_of id.entry) }
@@ -136,12 +138,15 @@ fn ask<'a>(
     requires recent { AreRecent reached.now table.now recent.now }
     ensures past { IsPast reached.now table.now result.0 }
     ensures actor { result.0.actor.now ≡ actor.now }
+    ensures kept { result.1 ≡ false → (result.0 ≡ recent.now.last) ⊎ Contains recent.now.others result.0 }
+    ensures not_last { result.1 ≡ true → same_bytes recent.now.last.actor.now actor.now ≡ false }
+    ensures not_other { result.1 ≡ true → All (λ a. same_bytes a.actor.now actor.now ≡ false) recent.now.others }
 {
     if same_actor(recent.last.actor, actor) {
         return (recent.last, false);
     }
-    if let Some(known) = known(&recent.others, actor) {
-        return (known, false);
+    if let Some(kept) = known(&recent.others, actor) {
+        return (kept, false);
     }
     (asked_of(reached, table, actor), true)
 }
@@ -150,6 +155,7 @@ fn ask<'a>(
 fn known<'a>(others: &[Asked<'a>], actor: &[u8]) -> Option<Asked<'a>>
     ensures among { IfSome result (λ a. Contains others.now a) }
     ensures actor { IfSome result (λ a. a.actor.now ≡ actor.now) }
+    ensures none { IfNone result (All (λ a. same_bytes a.actor.now actor.now ≡ false) others.now) }
 {
     for other in others {
         if same_actor(other.actor, actor) {
@@ -170,9 +176,12 @@ fn recent_of<'a>(asked: Asked<'a>) -> Recent<'a>
     }
 }
 
-/// Puts one in the place of the last and, if it is new, in that of another.
+/// Puts one in the place of the last and, if it is new, among the others.
 fn keep<'a>(recent: &mut Recent<'a>, asked: Asked<'a>, is_new: bool)
-    ensures { (clock : List (List ℕ × Reach)) (t : Table) → IsPast clock t asked.entry → AreRecent clock t recent.old → AreRecent clock t recent.new }
+    ensures last { recent.new.last ≡ asked.entry }
+    ensures others { recent.new.others ≡ cond is_new (set recent.old.others (recent.old.turn % 6) asked.entry) recent.old.others }
+    ensures turn { recent.new.turn ≡ cond is_new (recent.old.turn % 6 + 1) recent.old.turn }
+    ensures recent { (clock : List (List ℕ × Reach)) (t : Table) → IsPast clock t asked.entry → AreRecent clock t recent.old → AreRecent clock t recent.new }
 {
     recent.last = asked;
     if is_new {

@@ -133,6 +133,7 @@ fn pred_is_known<'a, C: ReadChange>(
 }
 
 /// The operation with the id, where it is one of the change before the place.
+#[inline(always)]
 fn own<'a, C: ReadChange>(change: &'a C, id: IdRef<'a>, place: usize) -> Option<Seen<'a>>
     ensures { option_map fact_shown result ≡ own_fact (C.change change.now) place (id_of id.entry) }
 {

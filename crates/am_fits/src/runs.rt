@@ -1,6 +1,6 @@
 //! Where the operations of one author stand among all, by their counters.
-ghost use Rattle.std.specs.Prelude.{◌≡◌, ◌<◌, ◌≤◌, ◌+◌, ◌^◌, ℕ, All, AllPairs, length, slice_index_or, nat_le, nat_lt, map, filter, IfSome, IfNone, OnOk, OnErr};
-ghost use Rattle.am_fits.specs.Runs.{Apart, HasPlace, IsEntered, run_below, runs_below, runs_in};
+ghost use Rattle.std.specs.Prelude.{◌≡◌, ◌<◌, ◌≤◌, ◌+◌, ◌^◌, ℕ, List, All, AllPairs, length, slice_index_or, nat_le, nat_lt, map, filter, true, false, IfSome, IfNone, OnOk, OnErr};
+ghost use Rattle.am_fits.specs.Runs.{Apart, GoesOn, HasPlace, IsLengthened, Joins, run_below, runs_below, runs_in};
 
 use std::alloc::{AllocError, Global};
 
@@ -68,12 +68,49 @@ pub(crate) fn place_of(runs: &[Run], counter: u64) -> Option<usize>
     }
 }
 
-/// Puts a run where its counters belong.
+/// The two runs as one, where the other goes on where this one ends.
+fn joined(last: Run, run: Run) -> Option<Run>
+    ensures some { IfSome result (GoesOn last run) }
+    ensures none { IfNone result ((longer : Run) → GoesOn last run longer → longer.count < 2 ^ 64 → ⊥) }
+{
+    if run.start < last.start || run.first < last.first {
+        return None;
+    }
+    if run.start - last.start != last.count as u64 || run.first - last.first != last.count {
+        return None;
+    }
+    let count = last.count.checked_add(run.count)?;
+    Some(Run { count, ..last })
+}
+
+/// Makes the last run longer, where this one goes on where that ends. Says whether it did.
+fn lengthen(runs: &mut Vec<Run>, run: Run) -> bool
+    ensures longer { result ≡ true → IsLengthened runs.old.items run runs.new.items }
+    ensures same { result ≡ false → runs.new.items ≡ runs.old.items }
+    ensures none { result ≡ false → (new : List Run) (is : IsLengthened runs.old.items run new) → is.longer.count < 2 ^ 64 → ⊥ }
+{
+    let count = runs.len();
+    if count == 0 {
+        return false;
+    }
+    let Some(longer) = joined(runs[count - 1], run) else {
+        return false;
+    };
+    runs[count - 1] = longer;
+    true
+}
+
+/// Puts a run where its counters belong. Where it goes on where the last ends, as the changes of an author who writes alone
+/// do, there is one run for both.
 pub(crate) fn enter(runs: &mut Vec<Run>, run: Run) -> Result<(), AllocError>
     requires { AllPairs Apart runs.old.items }
-    ensures ok { OnOk result (IsEntered runs.old.items run runs.new.items) }
+    ensures ok { OnOk result (Joins runs.old.items run runs.new.items) }
+    ensures longer { OnOk result ((new : List Run) (is : IsLengthened runs.old.items run new) → is.longer.count < 2 ^ 64 → IsLengthened runs.old.items run runs.new.items) }
     ensures err { OnErr result (runs.new.items ≡ runs.old.items) }
 {
+    if lengthen(runs, run) {
+        return Ok(());
+    }
     let place = upto(runs.as_slice(), run.start);
     runs.insert(place, run)?;
     Ok(())

@@ -56,6 +56,7 @@ pub(crate) fn show_slot<'a, O: ReadOp>(op: &'a O, id: IdRef<'a>) -> SlotRef<'a>
 }
 
 /// Whether it makes an object that takes the key.
+#[inline(always)]
 pub(crate) fn makes(seen: Option<Seen<'_>>, key: KeyRef<'_>) -> bool
     ensures { result ≡ option_map_or (λ f. takes f.action (key_of key.entry)) (option_map fact_shown seen.entry) false }
 {
@@ -66,6 +67,7 @@ pub(crate) fn makes(seen: Option<Seen<'_>>, key: KeyRef<'_>) -> bool
 }
 
 /// Whether it inserts into the object.
+#[inline(always)]
 pub(crate) fn inserts(seen: Option<Seen<'_>>, object: ObjRef<'_>) -> bool
     ensures { result ≡ option_map_or (inserts (object_of object.entry)) (option_map fact_shown seen.entry) false }
 {
@@ -76,6 +78,7 @@ pub(crate) fn inserts(seen: Option<Seen<'_>>, object: ObjRef<'_>) -> bool
 }
 
 /// Whether it is no deletion, and is in the slot of the object.
+#[inline(always)]
 pub(crate) fn gives_to(seen: Option<Seen<'_>>, object: ObjRef<'_>, slot: SlotRef<'_>) -> bool
     ensures { result ≡ option_map_or (gives_to (object_of object.entry) (slot_shown slot.entry)) (option_map fact_shown seen.entry) false }
 {
@@ -90,6 +93,7 @@ pub(crate) fn gives_to(seen: Option<Seen<'_>>, object: ObjRef<'_>, slot: SlotRef
 }
 
 /// Whether what the action makes takes such a key.
+#[inline(always)]
 pub(crate) fn takes(action: u8, key: KeyRef<'_>) -> bool
     ensures { result ≡ takes action (key_of key.entry) }
 {

@@ -77,6 +77,7 @@ struct Last<'a> {
 
 impl Texts {
     /// The key of an id.
+    #[inline(always)]
     fn id<'a>(
         &mut self,
         alloc: Global,

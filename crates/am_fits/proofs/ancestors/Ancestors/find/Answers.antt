@@ -19,7 +19,7 @@ returns-clause-found c =
     fact_below clock (facts_in table) i _ c.ask-is_new.result.0.end end c.if-id-asked.false (c.at.ensures c.args.id.actor.now author) ∙ ap (λ (p : Past). ancestor_fact p.clock p.facts i) c.self.view_is
 
 pub invariant_of-self : goal.invariant_of-self
-invariant_of-self c = (c.keep.ensures c.self.inside.reached c.self.inside.table.now c.ask-is_new.ensures.past c.self.invariant.0, c.self.invariant.1, c.self.invariant.2)
+invariant_of-self c = (c.keep.ensures.recent c.self.inside.reached c.self.inside.table.now c.ask-is_new.ensures.past c.self.invariant.0, c.self.invariant.1, c.self.invariant.2)
 
 pub invariant_of-self-2 : goal.invariant_of-self-2
-invariant_of-self-2 c = (c.keep.ensures c.self.inside.reached c.self.inside.table.now c.ask-is_new.ensures.past c.self.invariant.0, c.self.invariant.1, c.self.invariant.2)
+invariant_of-self-2 c = (c.keep.ensures.recent c.self.inside.reached c.self.inside.table.now c.ask-is_new.ensures.past c.self.invariant.0, c.self.invariant.1, c.self.invariant.2)

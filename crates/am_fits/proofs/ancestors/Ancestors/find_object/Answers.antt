@@ -1,4 +1,4 @@
-use Rattle.std.proofs.Common.{◌≡◌, ◌∙◌, sym, ap, subst}
+use Rattle.std.proofs.Common.{◌∙◌, sym, ap, subst}
 use Rattle.std.specs.Prelude.{IfSome}
 use Rattle.am_types.specs.Views.{id_of}
 use Rattle.am_types.proofs.Orders.{same_id-true}

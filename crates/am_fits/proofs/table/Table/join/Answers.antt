@@ -3,7 +3,7 @@ use Rattle.std.specs.Vec.{with_item}
 use Rattle.am_fits.specs.declared.table.Table.{Table}
 use Rattle.am_fits.specs.Runs.{Apart}
 use Rattle.am_fits.proofs.Entering.{on_err}
-use Rattle.am_fits.proofs.RunLaws.{runs_at, runs_kept, runs_set_other, entered_at}
+use Rattle.am_fits.proofs.RunLaws.{runs_at, runs_kept, runs_set_other, joins_at}
 use Rattle.am_fits.proofs.TableLaws.{joined, joined_facts}
 use Rattle.am_fits.proofs.ReadLists.{length_read}
 use Rattle.am_fits.proofs.table.Table.join.Given as given
@@ -33,7 +33,7 @@ returns-clause-table g c =
     let first : c.len.result ≡ length t.kept.items = omega (arith, c.len.ensures, t.kept.ok.0) in
     joined t _ c.requires.table (g.C.ReadChange.change c.args.change.now) c.args.author _ c.in_ok-keep_each.ensures.grow c.in_ok-keep_each.ensures.ok
     (spans g c) c.requires.new c.requires.some c.start.ensures first (sym (length_read g.C.Op.ReadOp.op c.ops.result.now (g.C.ReadChange.change c.args.change.now).ops c.ops.ensures))
-    (entered_at t.runs.items c.args.author c.index_mut.result.now c.enter.new.runs _ c.requires.runs c.index_mut.ensures.value c.in_ok-enter.ensures.ok)
+    (joins_at t.runs.items c.args.author c.index_mut.result.now c.enter.new.runs _ c.requires.runs c.index_mut.ensures.value c.in_ok-enter.ensures.ok)
     (runs_set_other t.runs.items c.args.author c.enter.new.runs)
 
 pub returns-clause-ok : goal.returns-clause-ok
@@ -43,5 +43,5 @@ returns-clause-ok g c =
     let new : Table = record { texts = c.keep_each.new.texts; kept = c.keep_each.new.kept; spans = c.push_reserved.new.self; runs = with_item t.runs c.args.author c.enter.new.runs } in
     joined_facts t new c.requires.table (g.C.ReadChange.change c.args.change.now) c.args.author _ c.in_ok-keep_each.ensures.grow c.in_ok-keep_each.ensures.ok
     (spans g c) c.requires.new c.requires.some c.start.ensures first (sym (length_read g.C.Op.ReadOp.op c.ops.result.now (g.C.ReadChange.change c.args.change.now).ops c.ops.ensures))
-    (entered_at t.runs.items c.args.author c.index_mut.result.now c.enter.new.runs _ c.requires.runs c.index_mut.ensures.value c.in_ok-enter.ensures.ok)
+    (joins_at t.runs.items c.args.author c.index_mut.result.now c.enter.new.runs _ c.requires.runs c.index_mut.ensures.value c.in_ok-enter.ensures.ok)
     (runs_set_other t.runs.items c.args.author c.enter.new.runs)
