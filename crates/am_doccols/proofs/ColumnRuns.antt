@@ -1,11 +1,11 @@
 -- A column that is written by runs, or row by row.
 use Rattle.std.proofs.Common.{◌≡◌, ℕ, ◌+◌, ◌<◌, ◌≤◌, ◌^◌, List, [], ◌∷◌, ◌++◌, length, map, take, drop, get_or, replicate, Option, Some, None, sym, ap, ◌∙◌, subst, arith, append_assoc}
 use Rattle.std.specs.Prelude.{IfSome, IfNone}
-use Rattle.std.proofs.lemmas.List.{length-append, length-map, length-take-le, map-append, map_more, replicate_more, replicate-append-replicate, take-append-drop, take-take, drop-take, get_or_default}
+use Rattle.std.proofs.lemmas.List.{length-append, length-map, length-take-le, map-append, map_more, replicate_more, replicate-append-replicate, take-append-drop, take-take, drop-take}
 use Rattle.am_fields.proofs.WriteLaws.{held, stepped_all}
 
 -- one more is like the first
-like_next : {X A : Type 0} (f : X → A) (xs : List X) (n : ℕ) (x : X) (c : A) → n < length xs → x ≡ get_or xs n x → f x ≡ c → map f (take n xs) ≡ replicate n c → map f (take (n + 1) xs) ≡ replicate (n + 1) c
+pub like_next : {X A : Type 0} (f : X → A) (xs : List X) (n : ℕ) (x : X) (c : A) → n < length xs → x ≡ get_or xs n x → f x ≡ c → map f (take n xs) ≡ replicate n c → map f (take (n + 1) xs) ≡ replicate (n + 1) c
 like_next f xs n x c l is e h =
     map_more f xs n x l ∙ ap (λ y. map f (take n xs) ++ f y ∷ []) (sym is) ∙ ap (λ zs. zs ++ f x ∷ []) h ∙ ap (λ y. replicate n c ++ y ∷ []) e ∙ replicate_more n c
 
@@ -26,14 +26,10 @@ run_step f xs at n x l is h =
     ∙ append_assoc (map f (take at xs)) (f x ∷ []) (replicate n (f x))
     ∙ ap (λ zs. map f (take at xs) ++ zs) (replicate-append-replicate 1 n (f x))
 
--- the same of the entry that an index gives
-pub like_at : {X A : Type 0} (f : X → A) (xs : List X) (n : ℕ) (d : X) (c : A) → n < length xs → f (get_or xs n d) ≡ c → map f (take n xs) ≡ replicate n c → map f (take (n + 1) xs) ≡ replicate (n + 1) c
-like_at f xs n d c l e h = like_next f xs n (get_or xs n d) c l (get_or_default xs n d (get_or xs n d) l) e h
-
-pub run_at : {X A : Type 0} (f : X → A) (xs : List X) (at n m : ℕ) (d : X) → at < length xs → n ≤ m → map f (take n (take m (drop (at + 1) xs))) ≡ replicate n (f (get_or xs at d))
-    → map f (take (at + (1 + n)) xs) ≡ map f (take at xs) ++ replicate (1 + n) (f (get_or xs at d))
-run_at f xs at n m d l few h =
-    run_step f xs at n (get_or xs at d) l (get_or_default xs at d (get_or xs at d) l) (ap (map f) (sym (take-take n m (drop (at + 1) xs) few)) ∙ h)
+-- the same within a part
+pub run_at : {X A : Type 0} (f : X → A) (xs : List X) (at n m : ℕ) (x : X) → at < length xs → x ≡ get_or xs at x → n ≤ m → map f (take n (take m (drop (at + 1) xs))) ≡ replicate n (f x)
+    → map f (take (at + (1 + n)) xs) ≡ map f (take at xs) ++ replicate (1 + n) (f x)
+run_at f xs at n m x l is few h = run_step f xs at n x l is (ap (map f) (sym (take-take n m (drop (at + 1) xs) few)) ∙ h)
 
 -- what a writer holds after one more part
 pub part_written : {A : Type 0} (old now new : Option (List A)) (done more after : List A) → IfSome old (λ xs. now ≡ Some (xs ++ done)) → IfSome now (λ ys. new ≡ Some (ys ++ more)) → after ≡ done ++ more

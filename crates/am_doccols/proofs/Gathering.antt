@@ -6,13 +6,13 @@ use Rattle.am_types.specs.declared.Bytes.{Bytes}
 use Rattle.am_types.specs.declared.IdRef.{IdRef}
 use Rattle.am_types.specs.declared.OpId.{OpId}
 use Rattle.am_types.specs.declared.Row.{Row}
+use Rattle.am_types.specs.Rows.{row_of}
 use Rattle.am_types.specs.Views.{id_of}
 use Rattle.am_doccols.specs.declared.gathered.GatheredRow.{GatheredRow}
 use Rattle.am_doccols.specs.Columns.{written_rows}
 use Rattle.am_doccols.specs.Conditions.{IsRowFor, HasRoom}
 use Rattle.am_doccols.specs.Front.{HasRoomFor}
-use Rattle.am_doccols.specs.Gathered.{rows_gathered, IsGatheringRows, IsGathering}
-use Rattle.am_doccols.specs.Lent.{row_with}
+use Rattle.am_doccols.specs.Gathered.{operation_in, rows_gathered, IsGatheringRows, IsGathering}
 use Rattle.am_doccols.proofs.GivenRows.{gathers_more, none_written, succs_of}
 
 -- what holds of rows and successors holds of slices of them
@@ -37,11 +37,11 @@ not_none false actors (Some rows) (Some all) gs ss P e h view = tt
 pub pushed_lent : (failed : Bool) (actors actors' : List (List ℕ)) (w w' shown : Option (List Row)) (gs gs' gs'' : List GatheredRow) (ss ss' ss'' more : List IdRef) (g : GatheredRow)
     → failed ≡ false → rows_gathered failed w gs ss ≡ shown → IsGatheringRows actors' w' gs' ss' → actors' ≡ actors
     → rows_gathered false w' gs' ss' ≡ rows_gathered false w gs ss → gs'' ≡ gs' ++ g ∷ [] → ss'' ≡ ss' ++ more → g.succs ≡ length more
-    → IsRowFor actors (row_with g.fields (map id_of more)) → IfSome shown (λ rows. HasRoom rows (map id_of more))
-    → IsGatheringRows actors' w' gs'' ss'' × IfSome shown (λ rows. rows_gathered false w' gs'' ss'' ≡ Some (rows ++ row_with g.fields (map id_of more) ∷ []))
+    → IsRowFor actors (row_of (map id_of more) (operation_in g)) → IfSome shown (λ rows. HasRoom rows (map id_of more))
+    → IsGatheringRows actors' w' gs'' ss'' × IfSome shown (λ rows. rows_gathered false w' gs'' ss'' ≡ Some (rows ++ row_of (map id_of more) (operation_in g) ∷ []))
 pushed_lent failed actors actors' w w' shown gs gs' gs'' ss ss' ss'' more g e view h names same rows_are ids_are n good room =
-    let all = gathers_more actors' w' shown gs' ss' more g h n (same ∙ shown_is failed w shown gs ss e view) (subst (λ a. IsRowFor a (row_with g.fields (map id_of more))) (sym names) good) room in
-    let P : List GatheredRow → List IdRef → Type 0 = λ xs ys. IsGatheringRows actors' w' xs ys × IfSome shown (λ rows. rows_gathered false w' xs ys ≡ Some (rows ++ row_with g.fields (map id_of more) ∷ [])) in
+    let all = gathers_more actors' w' shown gs' ss' more g h n (same ∙ shown_is failed w shown gs ss e view) (subst (λ a. IsRowFor a (row_of (map id_of more) (operation_in g))) (sym names) good) room in
+    let P : List GatheredRow → List IdRef → Type 0 = λ xs ys. IsGatheringRows actors' w' xs ys × IfSome shown (λ rows. rows_gathered false w' xs ys ≡ Some (rows ++ row_of (map id_of more) (operation_in g) ∷ [])) in
     subst (P gs'') (sym ids_are) (subst (λ xs. P xs (ss' ++ more)) (sym rows_are) all)
 
 -- rows are taken behind those that were written

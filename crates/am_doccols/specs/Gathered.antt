@@ -1,25 +1,35 @@
 -- Rows that are gathered before they are written.
+--     operation id op          the operation beside its id
+--     operation_in g           the operation of a row beside its id
 --     rows_given gs ids        the rows gs, each with as many of the ids as it has successors, in their order
 --     total gs                 how many successors they have in all
 --     AreGiven actors gs ids   they have just these ids as successors, and each row may be written
 --     with_gathered x gs       the fields x, and behind them those of the rows
 --     rows_gathered failed written gs ids     what was written, and behind it the rows that are gathered
 --     IsGathering ..           while memory is had, the rows that are gathered may be written behind those that were
-use Rattle.std.specs.Prelude.{◌≡◌, ℕ, ◌+◌, List, [], ◌∷◌, ◌++◌, length, map, take, drop, Option, Some, None, Bool, true, false, option_map}
+use Rattle.std.specs.Prelude.{◌≡◌, ℕ, ◌+◌, List, [], ◌∷◌, ◌++◌, length, map, take, drop, Option, Some, None, Bool, true, false}
 use Rattle.std.specs.List.{AllByRecursion}
 use Rattle.am_types.specs.declared.IdRef.{IdRef}
+use Rattle.am_types.specs.declared.Op.{Op}
 use Rattle.am_types.specs.declared.OpId.{OpId}
 use Rattle.am_types.specs.declared.Row.{Row}
-use Rattle.am_types.specs.Views.{id_of, object_of, key_of, value_of}
+use Rattle.am_types.specs.Operations.{Operation}
+use Rattle.am_types.specs.Rows.{row_of}
+use Rattle.am_types.specs.Views.{id_of}
 use Rattle.am_fields.specs.Held.{FieldLists}
 use Rattle.am_doccols.specs.declared.gathered.GatheredRow.{GatheredRow}
 use Rattle.am_doccols.specs.Conditions.{IsRowFor}
 use Rattle.am_doccols.specs.Front.{HasRoomFor}
-use Rattle.am_doccols.specs.Lent.{row_with}
+
+abbrev pub operation : IdRef → Op → Operation
+operation id op = record { id = id_of id; op = op }
+
+abbrev pub operation_in : GatheredRow → Operation
+operation_in g = operation g.id g.op.now
 
 abbrev pub rows_given : List GatheredRow → List OpId → List Row
 rows_given [] ids = []
-rows_given (g ∷ gs) ids = row_with g.fields (take g.succs ids) ∷ rows_given gs (drop g.succs ids)
+rows_given (g ∷ gs) ids = row_of (take g.succs ids) (operation_in g) ∷ rows_given gs (drop g.succs ids)
 
 abbrev pub total : List GatheredRow → ℕ
 total [] = 0
@@ -31,13 +41,13 @@ pub record AreGiven (actors : List (List ℕ)) (gs : List GatheredRow) (ids : Li
 
 abbrev pub with_gathered : FieldLists → List GatheredRow → FieldLists
 with_gathered x gs = record {
-  objects = x.objects ++ map (λ g. object_of g.fields.obj) gs;
-  keys = x.keys ++ map (λ g. key_of g.fields.key) gs;
-  inserts = x.inserts ++ map (λ g. g.fields.insert) gs;
-  actions = x.actions ++ map (λ g. g.fields.action) gs;
-  values = x.values ++ map (λ g. value_of g.fields.value) gs;
-  expands = x.expands ++ map (λ g. g.fields.expand) gs;
-  marks = x.marks ++ map (λ g. option_map (λ s. s.now) g.fields.mark) gs;
+  objects = x.objects ++ map (λ g. g.op.now.obj) gs;
+  keys = x.keys ++ map (λ g. g.op.now.key) gs;
+  inserts = x.inserts ++ map (λ g. g.op.now.insert) gs;
+  actions = x.actions ++ map (λ g. g.op.now.action) gs;
+  values = x.values ++ map (λ g. g.op.now.value) gs;
+  expands = x.expands ++ map (λ g. g.op.now.expand) gs;
+  marks = x.marks ++ map (λ g. g.op.now.mark) gs;
 }
 
 abbrev pub rows_gathered : Bool → Option (List Row) → List GatheredRow → List IdRef → Option (List Row)

@@ -1,9 +1,10 @@
 //! Rows that are gathered before they are written.
-use crate::lent::RowFields;
+use am_types::{IdRef, Op};
 
-/// A row that is lent, and how many successors it has.
+/// The operation of a row beside its id, both lent, and how many successors the row has.
 #[derive(Clone, Copy)]
 pub struct GatheredRow<'a> {
-    pub fields: RowFields<'a>,
+    pub id: IdRef<'a>,
+    pub op: &'a Op,
     pub succs: u64,
 }

@@ -1,5 +1,5 @@
 //! The columns of rows that are written by runs.
-ghost use Rattle.std.specs.Prelude.{◌≡◌, Some, IsTrue, option_map};
+ghost use Rattle.std.specs.Prelude.{◌≡◌, ◌↔◌, Some, IsTrue, option_map};
 ghost use Rattle.std.specs.Option.{option_copied};
 ghost use Rattle.am_types.specs.Views.{object_of, key_of};
 ghost use Rattle.am_fields.specs.Columns.{place_of};
@@ -7,7 +7,10 @@ ghost use Rattle.am_fields.specs.Layout.{object_actor as actor_of_object, object
 
 use crate::gathered::GatheredRow;
 use crate::row_column::RowColumn;
-use am_fields::{ListedActors, NumberWriter, TextWriter};
+use am_fields::{
+    ListedActors, NumberWriter, TextWriter, key_name, key_place, object_counter, object_place,
+    text_in,
+};
 use am_flags::FlagWriter;
 use am_types::{KeyRef, ObjRef, Text, same_actor, same_bytes};
 use std::alloc::AllocError;
@@ -23,17 +26,6 @@ fn object_actor<'a>(object: ObjRef<'a>) -> Option<&'a [u8]>
     }
 }
 
-// The counter of an object.
-#[inline(always)]
-fn object_counter(object: ObjRef<'_>) -> Option<u64>
-    ensures { result ≡ counter_of_object (object_of object.entry) }
-{
-    match object {
-        ObjRef::Root => None,
-        ObjRef::Made(id) => Some(id.counter),
-    }
-}
-
 // The actor of a key.
 #[inline(always)]
 fn key_actor<'a>(key: KeyRef<'a>) -> Option<&'a [u8]>
@@ -46,22 +38,10 @@ fn key_actor<'a>(key: KeyRef<'a>) -> Option<&'a [u8]>
     }
 }
 
-// The name of a key.
-#[inline(always)]
-fn key_name<'a>(key: KeyRef<'a>) -> Option<&'a str>
-    ensures { option_map (λ s. s.now) result ≡ key_string (key_of key.entry) }
-{
-    match key {
-        KeyRef::Name(name) => Some(name),
-        KeyRef::Head => None,
-        KeyRef::Elem(_) => None,
-    }
-}
-
 // Whether two actors, or none and none, are the same.
 #[inline(always)]
 fn same_actors(a: Option<&[u8]>, b: Option<&[u8]>) -> bool
-    ensures { IsTrue result → option_copied a.entry ≡ option_copied b.entry }
+    ensures { IsTrue result ↔ (option_copied a.entry ≡ option_copied b.entry) }
 {
     match (a, b) {
         (None, None) => true,
@@ -73,7 +53,7 @@ fn same_actors(a: Option<&[u8]>, b: Option<&[u8]>) -> bool
 // Whether two numbers, or none and none, are the same.
 #[inline(always)]
 fn same_numbers(a: Option<u64>, b: Option<u64>) -> bool
-    ensures { IsTrue result → a ≡ b }
+    ensures { IsTrue result ↔ (a ≡ b) }
 {
     match (a, b) {
         (None, None) => true,
@@ -85,22 +65,12 @@ fn same_numbers(a: Option<u64>, b: Option<u64>) -> bool
 // Whether two texts, or none and none, are the same.
 #[inline(always)]
 fn same_texts(a: Option<&str>, b: Option<&str>) -> bool
-    ensures { IsTrue result → option_map (λ s. s.now) a.entry ≡ option_map (λ s. s.now) b.entry }
+    ensures { IsTrue result ↔ (option_map (λ s. s.now) a.entry ≡ option_map (λ s. s.now) b.entry) }
 {
     match (a, b) {
         (None, None) => true,
         (Some(a), Some(b)) => same_bytes(a.as_bytes(), b.as_bytes()),
         _ => false,
-    }
-}
-
-// The place of an actor, if there is one.
-fn placed(actors: &ListedActors<'_>, actor: Option<&[u8]>) -> Option<u64>
-    ensures { result ≡ option_map (place_of actors.now) (option_copied actor.entry) }
-{
-    match actor {
-        None => None,
-        Some(actor) => Some(actors.place(actor)),
     }
 }
 
@@ -114,11 +84,11 @@ impl RowColumn for ObjectPlaces {
 
     ghost held = { λ writer. writer };
 
-    ghost cell = { λ actors row. option_map (place_of actors) (actor_of_object (object_of row.fields.obj)) };
+    ghost cell = { λ actors row. option_map (place_of actors) (actor_of_object row.op.now.obj) };
 
     #[inline(always)]
     fn alike(a: &GatheredRow<'_>, b: &GatheredRow<'_>) -> bool {
-        same_actors(object_actor(a.fields.obj), object_actor(b.fields.obj))
+        same_actors(object_actor(a.op.obj.lend()), object_actor(b.op.obj.lend()))
     }
 
     fn put(
@@ -127,7 +97,7 @@ impl RowColumn for ObjectPlaces {
         row: &GatheredRow<'_>,
         count: u64,
     ) -> Result<(), AllocError> {
-        to.push_alike(placed(actors, object_actor(row.fields.obj)), count)
+        to.push_alike(object_place(actors, row.op.obj.lend()), count)
     }
 }
 
@@ -141,11 +111,14 @@ impl RowColumn for ObjectCounters {
 
     ghost held = { λ writer. writer };
 
-    ghost cell = { λ actors row. counter_of_object (object_of row.fields.obj) };
+    ghost cell = { λ actors row. counter_of_object row.op.now.obj };
 
     #[inline(always)]
     fn alike(a: &GatheredRow<'_>, b: &GatheredRow<'_>) -> bool {
-        same_numbers(object_counter(a.fields.obj), object_counter(b.fields.obj))
+        same_numbers(
+            object_counter(a.op.obj.lend()),
+            object_counter(b.op.obj.lend()),
+        )
     }
 
     fn put(
@@ -154,7 +127,7 @@ impl RowColumn for ObjectCounters {
         row: &GatheredRow<'_>,
         count: u64,
     ) -> Result<(), AllocError> {
-        to.push_alike(object_counter(row.fields.obj), count)
+        to.push_alike(object_counter(row.op.obj.lend()), count)
     }
 }
 
@@ -168,11 +141,11 @@ impl RowColumn for KeyPlaces {
 
     ghost held = { λ writer. writer };
 
-    ghost cell = { λ actors row. option_map (place_of actors) (actor_of_key (key_of row.fields.key)) };
+    ghost cell = { λ actors row. option_map (place_of actors) (actor_of_key row.op.now.key) };
 
     #[inline(always)]
     fn alike(a: &GatheredRow<'_>, b: &GatheredRow<'_>) -> bool {
-        same_actors(key_actor(a.fields.key), key_actor(b.fields.key))
+        same_actors(key_actor(a.op.key.lend()), key_actor(b.op.key.lend()))
     }
 
     fn put(
@@ -181,7 +154,7 @@ impl RowColumn for KeyPlaces {
         row: &GatheredRow<'_>,
         count: u64,
     ) -> Result<(), AllocError> {
-        to.push_alike(placed(actors, key_actor(row.fields.key)), count)
+        to.push_alike(key_place(actors, row.op.key.lend()), count)
     }
 }
 
@@ -195,11 +168,11 @@ impl RowColumn for KeyNames {
 
     ghost held = { λ writer. writer };
 
-    ghost cell = { λ actors row. key_string (key_of row.fields.key) };
+    ghost cell = { λ actors row. key_string row.op.now.key };
 
     #[inline(always)]
     fn alike(a: &GatheredRow<'_>, b: &GatheredRow<'_>) -> bool {
-        same_texts(key_name(a.fields.key), key_name(b.fields.key))
+        same_texts(key_name(a.op.key.lend()), key_name(b.op.key.lend()))
     }
 
     fn put(
@@ -208,7 +181,7 @@ impl RowColumn for KeyNames {
         row: &GatheredRow<'_>,
         count: u64,
     ) -> Result<(), AllocError> {
-        to.push_alike(key_name(row.fields.key), count)
+        to.push_alike(key_name(row.op.key.lend()), count)
     }
 }
 
@@ -222,11 +195,11 @@ impl RowColumn for Inserts {
 
     ghost held = { λ writer. writer };
 
-    ghost cell = { λ actors row. row.fields.insert };
+    ghost cell = { λ actors row. row.op.now.insert };
 
     #[inline(always)]
     fn alike(a: &GatheredRow<'_>, b: &GatheredRow<'_>) -> bool {
-        a.fields.insert == b.fields.insert
+        a.op.insert == b.op.insert
     }
 
     fn put(
@@ -235,7 +208,7 @@ impl RowColumn for Inserts {
         row: &GatheredRow<'_>,
         count: u64,
     ) -> Result<(), AllocError> {
-        to.push_alike(row.fields.insert, count)
+        to.push_alike(row.op.insert, count)
     }
 }
 
@@ -249,11 +222,11 @@ impl RowColumn for Actions {
 
     ghost held = { λ writer. writer };
 
-    ghost cell = { λ actors row. Some row.fields.action };
+    ghost cell = { λ actors row. Some row.op.now.action };
 
     #[inline(always)]
     fn alike(a: &GatheredRow<'_>, b: &GatheredRow<'_>) -> bool {
-        a.fields.action == b.fields.action
+        a.op.action == b.op.action
     }
 
     fn put(
@@ -262,7 +235,7 @@ impl RowColumn for Actions {
         row: &GatheredRow<'_>,
         count: u64,
     ) -> Result<(), AllocError> {
-        to.push_alike(Some(u64::from(row.fields.action)), count)
+        to.push_alike(Some(u64::from(row.op.action)), count)
     }
 }
 
@@ -276,11 +249,11 @@ impl RowColumn for Expands {
 
     ghost held = { λ writer. writer };
 
-    ghost cell = { λ actors row. row.fields.expand };
+    ghost cell = { λ actors row. row.op.now.expand };
 
     #[inline(always)]
     fn alike(a: &GatheredRow<'_>, b: &GatheredRow<'_>) -> bool {
-        a.fields.expand == b.fields.expand
+        a.op.expand == b.op.expand
     }
 
     fn put(
@@ -289,7 +262,7 @@ impl RowColumn for Expands {
         row: &GatheredRow<'_>,
         count: u64,
     ) -> Result<(), AllocError> {
-        to.push_alike(row.fields.expand, count)
+        to.push_alike(row.op.expand, count)
     }
 }
 
@@ -303,11 +276,11 @@ impl RowColumn for Marks {
 
     ghost held = { λ writer. writer };
 
-    ghost cell = { λ actors row. option_map (λ s. s.now) row.fields.mark };
+    ghost cell = { λ actors row. row.op.now.mark };
 
     #[inline(always)]
     fn alike(a: &GatheredRow<'_>, b: &GatheredRow<'_>) -> bool {
-        same_texts(a.fields.mark, b.fields.mark)
+        same_texts(text_in(&a.op.mark), text_in(&b.op.mark))
     }
 
     fn put(
@@ -316,7 +289,7 @@ impl RowColumn for Marks {
         row: &GatheredRow<'_>,
         count: u64,
     ) -> Result<(), AllocError> {
-        to.push_alike(row.fields.mark, count)
+        to.push_alike(text_in(&row.op.mark), count)
     }
 }
 
@@ -330,11 +303,11 @@ impl RowColumn for IdPlaces {
 
     ghost held = { λ writer. writer };
 
-    ghost cell = { λ actors row. Some (place_of actors row.fields.id.actor.now) };
+    ghost cell = { λ actors row. Some (place_of actors row.id.actor.now) };
 
     #[inline(always)]
     fn alike(a: &GatheredRow<'_>, b: &GatheredRow<'_>) -> bool {
-        same_actors(Some(a.fields.id.actor), Some(b.fields.id.actor))
+        same_actor(a.id.actor, b.id.actor)
     }
 
     fn put(
@@ -343,7 +316,7 @@ impl RowColumn for IdPlaces {
         row: &GatheredRow<'_>,
         count: u64,
     ) -> Result<(), AllocError> {
-        to.push_alike(Some(actors.place(row.fields.id.actor)), count)
+        to.push_alike(Some(actors.place(row.id.actor)), count)
     }
 }
 

@@ -1,13 +1,13 @@
-//! Writing rows that are gathered: one column after another, each by the rows that are alike in it.
-ghost use Rattle.std.specs.Prelude.{◌≡◌, ◌+◌, ◌≤◌, ◌^◌, ◌++◌, ℕ, List, Some, All, map, length, IfSome, OnOk};
+//! Writing rows that are gathered: one column after another. Values, the counters of keys and of ids, and successors are
+//! pushed one by one, all else by the rows that are alike.
+ghost use Rattle.std.specs.Prelude.{◌≡◌, ◌+◌, ◌≤◌, ◌^◌, ◌++◌, List, Some, All, map, length, IfSome, OnOk};
 ghost use Rattle.am_types.specs.declared.OpId.{OpId};
 ghost use Rattle.am_types.specs.Fine.{IsId, IsKey};
 ghost use Rattle.am_types.specs.Values.{Good};
-ghost use Rattle.am_types.specs.Views.{id_of, key_of, value_of};
+ghost use Rattle.am_types.specs.Views.{id_of};
 ghost use Rattle.am_fields.specs.Held.{FieldLists, FieldsHeld, IdsHeld};
 ghost use Rattle.am_fields.specs.Layout.{id_counter, key_counter as counter_of_key};
 ghost use Rattle.am_fields.specs.Rooms.{FieldsHaveRoomFor};
-ghost use Rattle.am_delta.specs.Deltas.{IsMiddling};
 ghost use Rattle.am_doccols.specs.Front.{Takes, AreOpenFor};
 ghost use Rattle.am_doccols.specs.Gathered.{AreGiven, rows_given, with_gathered};
 
@@ -19,32 +19,19 @@ use crate::gathered_columns::{
 use crate::row_column::push_column;
 use crate::row_writer::push_lent_ids;
 use am_delta::DeltaWriter;
-use am_fields::{FieldWriter, IdWriter, ListedActors, NumberWriter};
-use am_types::{IdRef, KeyRef};
+use am_fields::{FieldWriter, IdWriter, ListedActors, NumberWriter, key_counter};
+use am_types::IdRef;
 use am_values::ValueWriter;
 use std::alloc::AllocError;
-
-// The counter of a key.
-fn key_counter(key: KeyRef<'_>) -> Option<i64>
-    requires { IsKey (key_of key) }
-    ensures value { result ≡ counter_of_key (key_of key.entry) }
-    ensures small { IfSome result IsMiddling }
-{
-    match key {
-        KeyRef::Name(_) => None,
-        KeyRef::Head => Some(0),
-        KeyRef::Elem(id) => Some(id.counter as i64),
-    }
-}
 
 // Appends the counters of the keys.
 fn push_key_counters(to: &mut DeltaWriter, rows: &[GatheredRow<'_>]) -> Result<(), AllocError>
     requires room { IfSome to.old (λ xs. length xs + length rows.now ≤ 2 ^ 32) }
-    requires keys { All (λ g. IsKey (key_of g.fields.key)) rows.now }
-    ensures { OnOk result (IfSome to.old (λ xs. to.new ≡ Some (xs ++ map (λ g. counter_of_key (key_of g.fields.key)) rows.now))) }
+    requires keys { All (λ g. IsKey g.op.now.key) rows.now }
+    ensures { OnOk result (IfSome to.old (λ xs. to.new ≡ Some (xs ++ map (λ g. counter_of_key g.op.now.key) rows.now))) }
 {
     for row in rows {
-        to.push(key_counter(row.fields.key))?;
+        to.push(key_counter(row.op.key.lend()))?;
     }
     Ok(())
 }
@@ -52,11 +39,11 @@ fn push_key_counters(to: &mut DeltaWriter, rows: &[GatheredRow<'_>]) -> Result<(
 // Appends the values.
 fn push_values(to: &mut ValueWriter, rows: &[GatheredRow<'_>]) -> Result<(), AllocError>
     requires room { IfSome to.old (λ xs. length xs + length rows.now ≤ 2 ^ 32) }
-    requires values { All (λ g. Good (value_of g.fields.value)) rows.now }
-    ensures { OnOk result (IfSome to.old (λ xs. to.new ≡ Some (xs ++ map (λ g. value_of g.fields.value) rows.now))) }
+    requires values { All (λ g. Good g.op.now.value) rows.now }
+    ensures { OnOk result (IfSome to.old (λ xs. to.new ≡ Some (xs ++ map (λ g. g.op.now.value) rows.now))) }
 {
     for row in rows {
-        to.push(row.fields.value)?;
+        to.push(row.op.value.lend())?;
     }
     Ok(())
 }
@@ -64,11 +51,11 @@ fn push_values(to: &mut ValueWriter, rows: &[GatheredRow<'_>]) -> Result<(), All
 // Appends the counters of the ids.
 fn push_id_counters(to: &mut DeltaWriter, rows: &[GatheredRow<'_>]) -> Result<(), AllocError>
     requires room { IfSome to.old (λ xs. length xs + length rows.now ≤ 2 ^ 32) }
-    requires ids { All (λ g. IsId (id_of g.fields.id)) rows.now }
-    ensures { OnOk result (IfSome to.old (λ xs. to.new ≡ Some (xs ++ map (λ g. id_counter (id_of g.fields.id)) rows.now))) }
+    requires ids { All (λ g. IsId (id_of g.id)) rows.now }
+    ensures { OnOk result (IfSome to.old (λ xs. to.new ≡ Some (xs ++ map (λ g. id_counter (id_of g.id)) rows.now))) }
 {
     for row in rows {
-        to.push(Some(row.fields.id.counter as i64))?;
+        to.push(Some(row.id.counter as i64))?;
     }
     Ok(())
 }
@@ -80,8 +67,8 @@ fn push_fields(
     rows: &[GatheredRow<'_>],
 ) -> Result<(), AllocError>
     requires room { FieldsHaveRoomFor (length rows.now) fields.old }
-    requires keys { All (λ g. IsKey (key_of g.fields.key)) rows.now }
-    requires values { All (λ g. Good (value_of g.fields.value)) rows.now }
+    requires keys { All (λ g. IsKey g.op.now.key) rows.now }
+    requires values { All (λ g. Good g.op.now.value) rows.now }
     ensures { OnOk result ((x : FieldLists) → FieldsHeld actors.now x fields.old → FieldsHeld actors.now (with_gathered x rows.now) fields.new) }
 {
     push_column::<ObjectPlaces>(&mut fields.object_actor, actors, rows)?;
@@ -105,8 +92,8 @@ fn push_ids(
 ) -> Result<(), AllocError>
     requires places { IfSome ids.old.places (λ xs. length xs + length rows.now ≤ 2 ^ 32) }
     requires counters { IfSome ids.old.counters (λ xs. length xs + length rows.now ≤ 2 ^ 32) }
-    requires ids { All (λ g. IsId (id_of g.fields.id)) rows.now }
-    ensures { OnOk result ((before : List OpId) → IdsHeld actors.now before ids.old → IdsHeld actors.now (before ++ map (λ g. id_of g.fields.id) rows.now) ids.new) }
+    requires ids { All (λ g. IsId (id_of g.id)) rows.now }
+    ensures { OnOk result ((before : List OpId) → IdsHeld actors.now before ids.old → IdsHeld actors.now (before ++ map (λ g. id_of g.id) rows.now) ids.new) }
 {
     push_column::<IdPlaces>(&mut ids.places, actors, rows)?;
     push_id_counters(&mut ids.counters, rows)?;

@@ -25,7 +25,6 @@ mod unnamed;
 
 pub use am_fields::{IdCursor as SuccCursor, IndexCursor};
 pub use fault::BadRows;
-pub use gathered::GatheredRow;
 pub use laws::{canonical_metas_spell, canonical_rows_spell, one_list_of_metas, one_list_of_rows};
 pub use lent::{MetaFields, RowFields, fields_of, meta_fields_of};
 pub use meta::MetaRef;

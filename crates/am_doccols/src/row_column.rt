@@ -36,7 +36,7 @@ pub trait RowColumn {
         ensures failed { IfNone (held to.old) (held to.new ≡ None) };
 }
 
-// How many of the rows begin them that are like the first in a column.
+// How many rows at the beginning are like the first in a column.
 fn alike_with<C: RowColumn>(first: &GatheredRow<'_>, rows: &[GatheredRow<'_>]) -> usize
     ensures few { result ≤ length rows.now }
     ensures alike { (actors : List (List ℕ)) → map (C.cell actors) (take result rows.now) ≡ replicate result (C.cell actors first.now) }
@@ -51,7 +51,7 @@ fn alike_with<C: RowColumn>(first: &GatheredRow<'_>, rows: &[GatheredRow<'_>]) -
     n
 }
 
-// Appends what the rows have in a column.
+/// Appends what the rows have in a column, by those that are alike. An error says that memory was wanted.
 pub fn push_column<C: RowColumn>(
     to: &mut C::Writer,
     actors: &ListedActors<'_>,

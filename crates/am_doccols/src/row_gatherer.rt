@@ -1,19 +1,20 @@
-//! Writing rows that are gathered first, so that each column is written by the rows that are alike in it.
+//! Writing rows that are gathered first, so that a column is written at once, mostly by the rows that are alike in it.
 ghost use Rattle.std.specs.Prelude.{◌≡◌, ◌≤◌, ◌++◌, ◌∷◌, [], Some, None, false, map, length, take, drop, IfOk, IfSome, IfNone, OnOk, OnErr, IsErr};
 ghost use Rattle.std.specs.List.{AllByRecursion};
+ghost use Rattle.am_types.specs.Rows.{row_of};
 ghost use Rattle.am_types.specs.Views.{id_of};
 ghost use Rattle.am_colmeta.specs.Metadata.{metadata, listing, body};
 ghost use Rattle.am_doccols.specs.Columns.{written_rows};
 ghost use Rattle.am_doccols.specs.Conditions.{IsRowFor, HasRoom};
 ghost use Rattle.am_doccols.specs.Front.{HasRoomFor};
-ghost use Rattle.am_doccols.specs.Gathered.{IsGatheringRows, rows_gathered};
+ghost use Rattle.am_doccols.specs.Gathered.{IsGatheringRows, operation, rows_gathered};
 ghost use Rattle.am_doccols.specs.Lent.{row_with};
 
 use crate::gathered::GatheredRow;
 use crate::lent::RowFields;
 use crate::row_writer::RowWriter;
 use crate::rows::RowCursor;
-use am_types::{ActorId, Bytes, IdRef};
+use am_types::{ActorId, Bytes, IdRef, Op};
 use std::alloc::{AllocError, Global};
 use std::marker::Model;
 
@@ -94,13 +95,18 @@ impl<'a> RowGatherer<'a> {
         })
     }
 
-    /// Appends the row with these fields and successors, all lent.
-    pub fn push_lent(&mut self, row: RowFields<'a>, succs: &[IdRef<'a>]) -> Result<(), AllocError>
-        requires row { IsRowFor self.old.0 (row_with row (map id_of succs.now)) }
+    /// Appends the row of the operation with this id and these successors, all lent.
+    pub fn push_op(
+        &mut self,
+        id: IdRef<'a>,
+        op: &'a Op,
+        succs: &[IdRef<'a>],
+    ) -> Result<(), AllocError>
+        requires row { IsRowFor self.old.0 (row_of (map id_of succs.now) (operation id op.now)) }
         requires room { IfSome self.old.1 (λ rows. HasRoom rows (map id_of succs.now)) }
         ensures actors { self.new.0 ≡ self.old.0 }
         ensures failed { IfNone self.old.1 ((self.new.1 ≡ None) × IsErr result) }
-        ensures ok { OnOk result (IfSome self.old.1 (λ rows. self.new.1 ≡ Some (rows ++ row_with row.entry (map id_of succs.now) ∷ []))) }
+        ensures ok { OnOk result (IfSome self.old.1 (λ rows. self.new.1 ≡ Some (rows ++ row_of (map id_of succs.now) (operation id.entry op.now) ∷ []))) }
         ensures err { OnErr result (self.new.1 ≡ None) }
     {
         if self.failed {
@@ -110,14 +116,16 @@ impl<'a> RowGatherer<'a> {
         make_room(&mut self.writer, &mut self.rows, &mut self.succs)?;
         self.succs.extend_from_slice(succs)?;
         self.rows.push(GatheredRow {
-            fields: row,
+            id,
+            op,
             succs: succs.len() as u64,
         })?;
         self.failed = false;
         Ok(())
     }
 
-    /// The same with a row that isn't lent for as long as those that are gathered, which are written before it.
+    /// Appends the row with these fields and successors, which needn't be lent for as long as those that are gathered: these
+    /// are written before it.
     pub fn push_apart(&mut self, row: RowFields<'_>, succs: &[IdRef<'_>]) -> Result<(), AllocError>
         requires row { IsRowFor self.old.0 (row_with row (map id_of succs.now)) }
         requires room { IfSome self.old.1 (λ rows. HasRoom rows (map id_of succs.now)) }

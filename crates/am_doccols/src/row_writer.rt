@@ -62,7 +62,7 @@ pub fn actors_in(alloc: Global, actors: &[ActorId]) -> Result<OwnedActors, Alloc
     Ok(OwnedActors::of(copied))
 }
 
-// Appends ids that are lent to the columns of places and of counters.
+/// Appends ids that are lent to the columns of places and of counters. An error says that memory was wanted.
 pub fn push_lent_ids(
     places: &mut NumberWriter,
     counters: &mut DeltaWriter,
@@ -168,8 +168,8 @@ impl RowWriter {
     }
 
     /// Appends the rows, each with as many of the ids as successors as it has, as that many pushes: one column after another,
-    /// each by the rows that are alike in it.
-    pub fn push_all(
+    /// most of them by the rows that are alike there.
+    pub(crate) fn push_all(
         &mut self,
         rows: &[GatheredRow<'_>],
         succs: &[IdRef<'_>],

@@ -8,5 +8,5 @@ use Rattle.am_doccols.proofs.gathered_writing.push_id_counters.Goals as goal
 
 pub push-requires-clause-room : goal.push-requires-clause-room
 push-requires-clause-room c =
-    room_for c.args.to.now c.loop-row.to (map (λ (g : GatheredRow). id_counter (id_of g.fields.id)) (take c.loop-row.row-index c.args.rows.now)) (length c.args.rows.now) (2 ^ 32) c.loop-row.invariant.1 c.loop-row.invariant.0 c.requires.room
-    (omega (arith, c.loop-row-test.true, done_length (λ (g : GatheredRow). id_counter (id_of g.fields.id)) c.args.rows.now c.loop-row.row-index (omega arith)))
+    room_for c.args.to.now c.loop-row.to (map (λ (g : GatheredRow). id_counter (id_of g.id)) (take c.loop-row.row-index c.args.rows.now)) (length c.args.rows.now) (2 ^ 32) c.loop-row.invariant.1 c.loop-row.invariant.0 c.requires.room
+    (omega (arith, c.loop-row-test.true, done_length (λ (g : GatheredRow). id_counter (id_of g.id)) c.args.rows.now c.loop-row.row-index (omega arith)))

@@ -7,5 +7,5 @@ use Rattle.am_doccols.proofs.gathered_writing.push_id_counters.Given as goal
 
 abbrev pub invariant-loop-row : goal.invariant-loop-row
 invariant-loop-row l =
-    IfSome l.initial.to (λ xs. l.to ≡ Some (xs ++ map (λ (g : GatheredRow). id_counter (id_of g.fields.id)) (take l.row-index l.rows)))
+    IfSome l.initial.to (λ xs. l.to ≡ Some (xs ++ map (λ (g : GatheredRow). id_counter (id_of g.id)) (take l.row-index l.rows)))
     × IfNone l.initial.to (l.to ≡ None)

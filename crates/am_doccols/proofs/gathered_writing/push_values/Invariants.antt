@@ -1,10 +1,9 @@
 use Rattle.std.proofs.Common.{◌≡◌, ◌++◌, Some, None, map, take}
 use Rattle.std.specs.Prelude.{IfSome, IfNone}
-use Rattle.am_types.specs.Views.{value_of}
 use Rattle.am_doccols.specs.declared.gathered.GatheredRow.{GatheredRow}
 use Rattle.am_doccols.proofs.gathered_writing.push_values.Given as goal
 
 abbrev pub invariant-loop-row : goal.invariant-loop-row
 invariant-loop-row l =
-    IfSome l.initial.to (λ xs. l.to ≡ Some (xs ++ map (λ (g : GatheredRow). value_of g.fields.value) (take l.row-index l.rows)))
+    IfSome l.initial.to (λ xs. l.to ≡ Some (xs ++ map (λ (g : GatheredRow). g.op.now.value) (take l.row-index l.rows)))
     × IfNone l.initial.to (l.to ≡ None)

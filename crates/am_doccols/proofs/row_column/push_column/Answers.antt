@@ -16,6 +16,6 @@ loop-at-preserved g c =
     record {
       few = omega (arith, c.alike_with-count.ensures.few, c.loop-at-test.true);
       written = part_written (g.C.RowColumn.held c.args.to.now) (g.C.RowColumn.held c.loop-at.to) _ (map cell (take at c.args.rows.now)) _ _ c.loop-at.invariant.written c.in_ok-put.ensures.ok
-          (run_at cell c.args.rows.now at n (length c.args.rows.now - (at + 1)) _ c.loop-at-test.true (omega (arith, c.alike_with-count.ensures.few, c.loop-at-test.true)) (c.alike_with-count.ensures.alike c.args.actors.now));
+          (run_at cell c.args.rows.now at n (length c.args.rows.now - (at + 1)) _ c.loop-at-test.true c.index-rows-at.is (omega (arith, c.alike_with-count.ensures.few, c.loop-at-test.true)) (c.alike_with-count.ensures.alike c.args.actors.now));
       none = none_on _ (g.C.RowColumn.held c.loop-at.to) _ c.loop-at.invariant.none c.in_ok-put.ensures.failed;
     }
