@@ -1,5 +1,5 @@
 -- What a delivery adds to the map of the waiting changes.
-use Rattle.std.proofs.Common.{arith, length, get_or, All, ◌≡◌, Bool, List, [], ◌∷◌, ◌++◌, true, false, Option, Some, None, option_map, refl, sym, ap, ◌∙◌, subst, inl, inr, IsPermutation}
+use Rattle.std.proofs.Common.{arith, length, get_or, All, ◌≡◌, Bool, cond, List, [], ◌∷◌, ◌++◌, true, false, Option, Some, None, option_map, refl, sym, ap, ◌∙◌, subst, inl, inr, IsPermutation}
 use Rattle.std.specs.Option.{option_or}
 use Rattle.std.specs.BTreeMap.{BTreeMap, get, is_at, insert_entry}
 use Rattle.std.specs.Map.{lookup}
@@ -96,7 +96,7 @@ in_second None None c r n e = ap (option_map (λ (d : Change). same_change d c))
 in_second None (Some m) c r n e = ap (option_map (λ (d : Change). same_change d c)) e
 in_second (Some m) p c r n e = absurd (no_such m n)
 
-is_none : (c : Change) (o : Option Member) → None ≡ option_map (equals c) o → o ≡ None
+pub is_none : (c : Change) (o : Option Member) → None ≡ option_map (equals c) o → o ≡ None
 is_none c None e = refl
 is_none c (Some m) e = absurd (no_such (equals c m) (sym e))
 
@@ -107,6 +107,15 @@ none_second (Some m) p e = absurd (no_such m e)
 some_is : (c : Change) (o : Option Member) (b : Bool) → Some b ≡ option_map (equals c) o → (m : Member) × (o ≡ Some m) × (equals c m ≡ b)
 some_is c None b e = absurd (no_such b e)
 some_is c (Some m) b e = let f : equals c m ≡ b = cc in (m, refl, f)
+
+-- what is told of the closed members, or else of the waiting ones, is told of both
+module _ (C W : List Member) (h : Hash) (c : Change) where
+  pub told_closed : (b : Bool) → Some b ≡ option_map (equals c) (member C h) → Some b ≡ option_map (equals c) (member (C ++ W) h)
+  told_closed b e = in_first (member C h) (member W h) c b (sym e) ∙ ap (option_map (equals c)) (sym (both C W h))
+
+  pub told_waiting : (r : Option Bool) → None ≡ option_map (equals c) (member C h) → r ≡ option_map (equals c) (member W h) → r ≡ option_map (equals c) (member (C ++ W) h)
+  told_waiting r none e =
+      e ∙ ap (λ o. option_map (equals c) (option_or o (member W h))) (sym (is_none c (member C h) none)) ∙ ap (option_map (equals c)) (sym (both C W h))
 
 -- a hash that is new is none of the waiting ones
 pub is_fresh : (C W : List Member) (h : Hash) (c : Change) → None ≡ option_map (equals c) (member (C ++ W) h) → holds W h ≡ false
@@ -147,6 +156,13 @@ module _ (C W : List Member) (m : Member) (b : Bool) (some : Some b ≡ option_m
   alike_clash R Q f q =
       let test : same_change found.0.change m.change ≡ false = found.2 ∙ f in
       received R (record { closed = C; waiting = W; rejected = Q }) (simp test (record { closed = IsPermutation-refl C; waiting = IsPermutation-refl W; rejected = sym q }))
+
+-- the change whose hash m has is compared with m, and m is rejected unless the two are equal
+pub alike_told : (C W : List Member) (m : Member) (b : Bool) → Some b ≡ option_map (equals m.change) (member (C ++ W) m.hash) → (R Q : List Rejected)
+    → Q ≡ cond b R (R ++ record { hash = m.hash; why = reasons.HashClash } ∷ [])
+    → Alike (receive (record { closed = C; waiting = W; rejected = R }) (m ∷ [])) (record { closed = C; waiting = W; rejected = Q })
+alike_told C W m true some R Q e = subst (λ q. Alike (receive (record { closed = C; waiting = W; rejected = R }) (m ∷ [])) (record { closed = C; waiting = W; rejected = q })) (sym e) (alike_same C W m true some R refl)
+alike_told C W m false some R Q e = alike_clash C W m false some R Q refl e
 
 -- ---- one more
 

@@ -1,28 +1,21 @@
 -- The changes that have joined, lent from the waiting ones.
-use Rattle.std.proofs.Common.{◌≡◌, List, [], ◌∷◌, ◌++◌, map, get_or, true, Option, Some, None, option_map, refl, sym, ap, ◌∙◌, subst, All, Contains, BTreeMap}
-use Rattle.std.specs.BTreeMap.{IsOrdered}
+use Rattle.std.proofs.Common.{◌≡◌, List, [], ◌∷◌, ◌++◌, map, Option, Some, None, option_map, refl, sym, ap, ◌∙◌, All, Contains, BTreeMap, Bor}
+use Rattle.std.specs.BTreeMap.{get, IsOrdered}
 use Rattle.std.proofs.lemmas.Bool.{both_ways}
-use Rattle.std.proofs.lemmas.List.Elements.{Contains-get_or, All-map, All-contains}
+use Rattle.std.proofs.lemmas.List.{map-append}
+use Rattle.std.proofs.lemmas.List.Elements.{All-contains}
 use Rattle.am_types.specs.declared.Hash.{Hash}
 use Rattle.am_types.specs.declared.Change.{Change}
 use Rattle.am_types.specs.Order.{hash_cmp, same}
-use Rattle.am_types.specs.Members.{Member, hashes, changes, member, holds}
+use Rattle.am_types.specs.Members.{Member, hashes, changes, member}
 use Rattle.am_types.proofs.Lists.{all_of}
 use Rattle.am_types.proofs.Orders.{same_hash-true, same_hash_itself}
-use Rattle.am_delivery.specs.Waiting.{waiting_of, taken_out}
+use Rattle.am_delivery.specs.Waiting.{waiting_of, taken_out, AreLent}
 use Rattle.am_delivery.proofs.Lists.{Within, Contains-here, Contains-later, found_is, find_none, any_none}
-use Rattle.am_delivery.proofs.Members.{Unique, unique, holds_it}
-use Rattle.am_delivery.proofs.Steady.{absent}
+use Rattle.am_delivery.proofs.Members.{Unique, unique}
 use Rattle.am_delivery.proofs.Steps.{distinct}
-use Rattle.am_delivery.proofs.Arrivals.{change_of}
+use Rattle.am_delivery.proofs.Arrivals.{looked_up}
 use Rattle.am_delivery.proofs.TakenOut.{taken_within}
-
-no_member : (o : Option Member) → option_map change_of o ≡ None → o ≡ None
-no_member None e = refl
-no_member (Some m) e = cc
-
-pub never_absent : (W : List Member) (h : Hash) → option_map change_of (member W h) ≡ None → holds W h ≡ true → ⊥
-never_absent W h e t = both_ways (holds W h) (absent W h (no_member (member W h) e)) t
 
 some_once : {X : Type 0} (xs ys : List X) → map (λ x. Some x) xs ≡ map (λ x. Some x) ys → xs ≡ ys
 some_once [] [] e = refl
@@ -60,9 +53,6 @@ module _ (w : BTreeMap Hash Change) (ordered : IsOrdered hash_cmp w) (hs : List 
   within : Within out (waiting_of w)
   within m c = taken_within hs (waiting_of w) m c
 
-  pub each_held : All (λ h. holds (waiting_of w) h ≡ true) hs
-  each_held = subst (All (λ h. holds (waiting_of w) h ≡ true)) named (All-map (λ h. holds (waiting_of w) h ≡ true) (λ (m : Member). m.hash) out (λ k d l. holds_it (waiting_of w) (get_or out k d) (within (get_or out k d) (Contains-get_or out k d l))))
-
   pub are_changes : (cs : List Change) → map (λ c. Some c) cs ≡ map (found (waiting_of w)) hs → changes out ≡ cs
   are_changes cs e = sym (some_once cs (changes out) (e ∙ ap (map (found (waiting_of w))) (sym named) ∙ all_found (waiting_of w) (unique (waiting_of w) (distinct w ordered)) out within))
 
@@ -70,9 +60,18 @@ module _ (w : BTreeMap Hash Change) (ordered : IsOrdered hash_cmp w) (hs : List 
   each_admitted P all = all_of P out (λ m c. All-contains P (waiting_of w) m all (within m c))
 
 -- lent values, one by one
-pub lent_some : {X : Type 0} (cs : List (Rattle.std.proofs.Common.Bor X)) → map (λ c. Some c) (map (λ (c : Rattle.std.proofs.Common.Bor X). c.now) cs) ≡ map (λ (c : Rattle.std.proofs.Common.Bor X). Some c.now) cs
+pub lent_some : {X : Type 0} (cs : List (Bor X)) → map (λ c. Some c) (map (λ (c : Bor X). c.now) cs) ≡ map (λ (c : Bor X). Some c.now) cs
 lent_some [] = refl
 lent_some (c ∷ cs) = ap (λ l. Some c.now ∷ l) (lent_some cs)
+
+-- one more is lent
+pub lent_more : (w : BTreeMap Hash Change) (old new : List (Bor Change)) (hs ks : List Hash) (h : Hash) (c : Bor Change) → new ≡ old ++ c ∷ [] → ks ≡ hs ++ h ∷ [] → Some c.now ≡ get hash_cmp w h
+    → AreLent old hs (waiting_of w) → AreLent new ks (waiting_of w)
+lent_more w old new hs ks h c n k e had =
+    let last : Some c.now ≡ found (waiting_of w) h = e ∙ looked_up w.entries h in
+    ap (map (λ (x : Bor Change). Some x.now)) n ∙ map-append (λ (x : Bor Change). Some x.now) old (c ∷ [])
+    ∙ (λ i. had i ++ last i ∷ [])
+    ∙ sym (map-append (found (waiting_of w)) hs (h ∷ [])) ∙ ap (map (found (waiting_of w))) (sym k)
 
 pub within_all : (P : Member → Type 0) (V E : List Member) → ((m : Member) → Contains V m → Contains E m) → All P E → All P V
 within_all P V E w all = all_of P V (λ m c. All-contains P E m all (w m c))

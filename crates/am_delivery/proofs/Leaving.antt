@@ -123,11 +123,11 @@ module _ (p : Member → Bool) (h : Hash) (c : Change) (fails : (d : Change) →
   dropped (e ∷ es) n = dropped_by (hash_cmp h e.0) e es refl n (dropped es)
 
 -- a change that came and whose hash was put down
-pub remaining_inserted : (hs : List Hash) (w v : BTreeMap Hash Change) (h : Hash) (c : Change) → holds (waiting_of w) h ≡ false → v.entries ≡ insert_entry hash_cmp w.entries h c
-    → remaining (hs ++ h ∷ []) (waiting_of v) ≡ remaining hs (waiting_of w)
-remaining_inserted hs w v h c n e =
+pub remaining_inserted : (hs : List Hash) (w : BTreeMap Hash Change) (es : List (Hash × Change)) (h : Hash) (c : Change) → holds (waiting_of w) h ≡ false → es ≡ insert_entry hash_cmp w.entries h c
+    → remaining (hs ++ h ∷ []) (members_of es) ≡ remaining hs (waiting_of w)
+remaining_inserted hs w es h c n e =
     let there : among hash_cmp (hs ++ h ∷ []) h ≡ true = among_from (hs ++ h ∷ []) h (Contains-append_right hs (h ∷ []) h (Contains-here h [])) in
-    ap (λ es. remaining (hs ++ h ∷ []) (members_of es)) e ∙ dropped (λ m. not (among hash_cmp (hs ++ h ∷ []) m.hash)) h c (λ d. ap not there) w.entries n ∙ remaining_absent hs h (waiting_of w) n
+    ap (λ fs. remaining (hs ++ h ∷ []) (members_of fs)) e ∙ dropped (λ m. not (among hash_cmp (hs ++ h ∷ []) m.hash)) h c (λ d. ap not there) w.entries n ∙ remaining_absent hs h (waiting_of w) n
 
 -- what is tracked doesn't depend on how the waiting changes are listed
 pub tracks_permuted : (C V W : List Member) (t : Tracker) → IsPermutation V W → Tracks C V t → Tracks C W t

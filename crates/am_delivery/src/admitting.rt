@@ -1,11 +1,11 @@
 //! Settling, by the queue of the changes that lack nothing.
-ghost use Rattle.std.specs.Prelude.{◌≡◌, ◌++◌, List, All, IfOk, OnOk, MatchBool, MatchOption, vec_items};
+ghost use Rattle.std.specs.Prelude.{◌≡◌, ◌++◌, [], List, All, IfOk, OnOk, MatchBool, MatchOption, vec_items};
 ghost use Rattle.am_types.specs.Members.{Member, hashes};
 ghost use Rattle.am_types.specs.ValidSets.{Valid};
 ghost use Rattle.am_types.specs.Deliver.{Sets, TakesOne, IsSettled, Waits, admit_by, turned_away, settle};
 ghost use Rattle.am_delivery.specs.Tracking.{Tracks};
 ghost use Rattle.am_delivery.specs.Views.{tracker};
-ghost use Rattle.am_delivery.specs.Waiting.{waiting_of, remaining, taken_out, all_gone};
+ghost use Rattle.am_delivery.specs.Waiting.{waiting_of, remaining, taken_out, all_gone, AreLent};
 
 use crate::closed::Closed;
 use crate::pending::Pending;
@@ -36,12 +36,14 @@ fn why_not(verdict: Verdict) -> Option<Why>
     }
 }
 
-/// Admits or rejects the ready change of least hash, which is gone from then on, and answers whether there was one.
-fn admit_next<S: Closed>(
+/// Admits or rejects the ready change of least hash, which is gone from then on, and answers whether there was one. One
+/// that joins is lent.
+fn admit_next<'a, S: Closed>(
     alloc: Global,
     closed: &mut S,
-    waiting: &BTreeMap<Hash, Change>,
+    waiting: &'a BTreeMap<Hash, Change>,
     gone: &mut Gone,
+    lent: &mut Vec<&'a Change>,
     pending: &mut Pending,
     rejected: &mut Vec<Rejected>,
 ) -> Result<bool, AllocError>
@@ -54,6 +56,7 @@ fn admit_next<S: Closed>(
         IfOk result (λ taken. MatchBool taken (TakesOne old new) ((new ≡ old) × IsSettled old)) }
     ensures joined { OnOk result ((C : List Member) → S.members closed.old ≡ C ++ taken_out (vec_items gone.old.joined) (waiting_of waiting.now) → S.members closed.new ≡ C ++ taken_out (vec_items gone.new.joined) (waiting_of waiting.now)) }
     ensures named { OnOk result (hashes (taken_out (vec_items gone.old.joined) (waiting_of waiting.now)) ≡ vec_items gone.old.joined → hashes (taken_out (vec_items gone.new.joined) (waiting_of waiting.now)) ≡ vec_items gone.new.joined) }
+    ensures lent { OnOk result (AreLent lent.old.items (vec_items gone.old.joined) (waiting_of waiting.now) → AreLent lent.new.items (vec_items gone.new.joined) (waiting_of waiting.now)) }
     ensures base { S.base closed.new ≡ S.base closed.old }
 {
     let _count = waiting.len();
@@ -67,6 +70,7 @@ fn admit_next<S: Closed>(
     match why_not(verdict) {
         None => {
             gone.joined.push(hash)?;
+            lent.push(change)?;
             closed.join(alloc, hash, change)?;
             pending.release(&hash)?;
         }
@@ -78,28 +82,32 @@ fn admit_next<S: Closed>(
     Ok(true)
 }
 
-/// Admits or rejects until no change is ready. Answers which changes wait no longer; the map still has them.
-pub fn settle_all<S: Closed>(
+/// Admits or rejects until no change is ready. Answers which changes wait no longer; the map still has them, and lends
+/// those that have joined.
+pub fn settle_all<'a, S: Closed>(
     alloc: Global,
     closed: &mut S,
-    waiting: &BTreeMap<Hash, Change>,
+    waiting: &'a BTreeMap<Hash, Change>,
     pending: &mut Pending,
     rejected: &mut Vec<Rejected>,
+    lent: &mut Vec<&'a Change>,
 ) -> Result<Gone, AllocError>
     requires tracks { Tracks (S.members closed.old) (waiting_of waiting.now) (tracker pending.old) }
     requires valid { Valid (S.members closed.old) }
     requires waits { All (Waits (S.members closed.old)) (waiting_of waiting.now) }
+    requires none { lent.old.items ≡ [] }
     ensures settles { let old : Sets = record { closed = S.members closed.old; waiting = waiting_of waiting.now; rejected = vec_items rejected.old } in
         IfOk result (λ gone. ◌≡◌ {A = Sets} (record { closed = S.members closed.new; waiting = remaining (all_gone gone) (waiting_of waiting.now); rejected = vec_items rejected.new }) (settle old)) }
     ensures tracks { IfOk result (λ gone. Tracks (S.members closed.new) (remaining (all_gone gone) (waiting_of waiting.now)) (tracker pending.new)) }
     ensures joined { IfOk result (λ gone. S.members closed.new ≡ S.members closed.old ++ taken_out (vec_items gone.joined) (waiting_of waiting.now)) }
     ensures named { IfOk result (λ gone. hashes (taken_out (vec_items gone.joined) (waiting_of waiting.now)) ≡ vec_items gone.joined) }
+    ensures lent { IfOk result (λ gone. AreLent lent.new.items (vec_items gone.joined) (waiting_of waiting.now)) }
     ensures base { S.base closed.new ≡ S.base closed.old }
 {
     let mut gone = Gone {
         joined: Vec::new(alloc),
         turned_away: Vec::new(alloc),
     };
-    while admit_next(alloc, closed, waiting, &mut gone, pending, rejected)? {}
+    while admit_next(alloc, closed, waiting, &mut gone, lent, pending, rejected)? {}
     Ok(gone)
 }

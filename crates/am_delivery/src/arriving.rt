@@ -1,5 +1,5 @@
 //! The changes of a delivery join the waiting ones, unless their hashes are held.
-ghost use Rattle.std.specs.Prelude.{◌≡◌, ◌++◌, ◌∷◌, [], All, IfOk, OnOk, false, filter, not, option_map, vec_items};
+ghost use Rattle.std.specs.Prelude.{◌≡◌, ◌++◌, ◌∷◌, [], All, IfNone, IfOk, IfSome, OnOk, filter, not, option_map, vec_items, if◌then◌else◌};
 ghost use Rattle.std.specs.BTreeMap.{insert_entry};
 ghost use Rattle.am_types.specs.Fine.{Fine};
 ghost use Rattle.am_types.specs.Order.{hash_cmp};
@@ -15,6 +15,7 @@ use crate::pending::Pending;
 use am_types::{Change, Hash, Rejected, Why};
 use std::alloc::{AllocError, Global};
 use std::collections::BTreeMap;
+use std::collections::btree_map::Entry;
 
 /// Whether two changes are equal.
 pub fn is_same(held: &Change, change: &Change) -> bool
@@ -23,25 +24,21 @@ pub fn is_same(held: &Change, change: &Change) -> bool
     held == change
 }
 
-/// Whether the change with this hash that is closed or waits is equal to that one, or None where there is none.
+/// Whether the closed change with this hash is equal to that one, or None where there is none.
 fn compared<S: Closed>(
     alloc: Global,
     closed: &S,
-    waiting: &BTreeMap<Hash, Change>,
     hash: &Hash,
     change: &Change,
 ) -> Result<Option<bool>, AllocError>
     requires { S.members closed.now ≡ S.base closed.now }
-    ensures { IfOk result (λ same. same ≡ option_map (λ m. same_change m.change change.now) (member (S.members closed.now ++ waiting_of waiting.now) hash.now)) }
+    ensures { IfOk result (λ same. same ≡ option_map (λ m. same_change m.change change.now) (member (S.members closed.now) hash.now)) }
 {
-    if closed.holds(hash) {
-        let same = closed.is_same(alloc, hash, change)?;
-        return Ok(Some(same));
+    if !closed.holds(hash) {
+        return Ok(None);
     }
-    match waiting.get(hash) {
-        Some(held) => Ok(Some(is_same(held, change))),
-        None => Ok(None),
-    }
+    let same = closed.is_same(alloc, hash, change)?;
+    Ok(Some(same))
 }
 
 /// Those of these hashes that no closed change has.
@@ -57,28 +54,40 @@ pub fn lacking<S: Closed>(alloc: Global, closed: &S, deps: &[Hash]) -> Result<Ve
     Ok(found)
 }
 
-/// A change whose hash is new joins the waiting ones. Its hash is put down first, so that without memory it can be taken
-/// out again.
-fn wait<S: Closed>(
-    alloc: Global,
-    closed: &S,
+/// A change joins the waiting ones, unless one of these has its hash: then it is told whether that one is equal to it. Its
+/// hash is put down too, so that without memory it can be taken out again.
+fn put(
     waiting: &mut BTreeMap<Hash, Change>,
-    pending: &mut Pending,
     came: &mut Vec<Hash>,
     hash: Hash,
     change: Change,
-) -> Result<(), AllocError>
-    requires fresh { holds (waiting_of waiting.old) hash ≡ false }
-    requires fine { Fine change }
-    requires tracks { Tracks (S.members closed.now) (waiting_of waiting.old) (tracker pending.old) }
-    ensures entries { OnOk result (waiting.new.entries ≡ insert_entry hash_cmp waiting.old.entries hash change) }
-    ensures tracks { OnOk result (Tracks (S.members closed.now) (waiting_of waiting.new) (tracker pending.new)) }
+) -> Result<Option<bool>, AllocError>
+    ensures same { IfOk result (λ same. same ≡ option_map (λ m. same_change m.change change) (member (waiting_of waiting.old) hash)) }
+    ensures put { IfOk result (λ same. IfNone same (waiting.new.entries ≡ insert_entry hash_cmp waiting.old.entries hash change)) }
+    ensures stays { IfOk result (λ same. IfSome same (λ b. waiting.new.entries ≡ waiting.old.entries)) }
     ensures kept { remaining (vec_items came.new) (waiting_of waiting.new) ≡ remaining (vec_items came.old) (waiting_of waiting.old) }
 {
-    came.push(hash)?;
-    let absent = lacking(alloc, closed, change.deps.as_slice())?;
-    pending.enter(alloc, hash, absent.as_slice())?;
-    waiting.insert(hash, change)?;
+    came.reserve(1)?;
+    match waiting.entry(hash)? {
+        Entry::Occupied(held) => Ok(Some(is_same(held.get(), &change))),
+        Entry::Vacant(place) => {
+            came.push_reserved(hash);
+            place.insert(change);
+            Ok(None)
+        }
+    }
+}
+
+/// Rejects a change whose hash another has, unless the two are equal.
+fn tell(rejected: &mut Vec<Rejected>, hash: Hash, same: bool) -> Result<(), AllocError>
+    ensures { OnOk result (vec_items rejected.new ≡ (if same then vec_items rejected.old else vec_items rejected.old ++ record { hash = hash; why = Why.HashClash } ∷ [])) }
+{
+    if !same {
+        rejected.push(Rejected {
+            hash,
+            why: Why::HashClash,
+        })?;
+    }
     Ok(())
 }
 
@@ -103,20 +112,15 @@ fn receive_one<S: Closed>(
     ensures tracks { OnOk result (Tracks (S.members closed.now) (waiting_of waiting.new) (tracker pending.new)) }
     ensures kept { remaining (vec_items came.new) (waiting_of waiting.new) ≡ remaining (vec_items came.old) (waiting_of waiting.old) }
 {
-    match compared(alloc, closed, waiting, &hash, &change)? {
-        Some(true) => Ok(()),
-        Some(false) => {
-            rejected.push(Rejected {
-                hash,
-                why: Why::HashClash,
-            })?;
-            Ok(())
-        }
-        None => {
-            wait(alloc, closed, waiting, pending, came, hash, change)?;
-            Ok(())
-        }
+    if let Some(same) = compared(alloc, closed, &hash, &change)? {
+        return tell(rejected, hash, same);
     }
+    let absent = lacking(alloc, closed, change.deps.as_slice())?;
+    if let Some(same) = put(waiting, came, hash, change)? {
+        return tell(rejected, hash, same);
+    }
+    pending.enter(alloc, hash, absent.as_slice())?;
+    Ok(())
 }
 
 /// The same for each of these changes in turn. The hashes of those that join the waiting ones are put down.

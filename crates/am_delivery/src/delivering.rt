@@ -1,7 +1,7 @@
 //! A whole delivery.
-ghost use Rattle.std.specs.Prelude.{◌≡◌, ◌≤◌, ◌+◌, ◌++◌, [], All, Contains, IfOk, OnOk, OnErr, IsPermutation, None, length, vec_capacity, vec_items, vec_len};
-ghost use Rattle.am_types.specs.Deliver.{MayCome, AreStored, deliver as delivered};
-ghost use Rattle.am_types.specs.Members.{Member, hashes};
+ghost use Rattle.std.specs.Prelude.{◌≡◌, ◌≤◌, ◌+◌, ◌++◌, [], All, IfOk, IfSome, OnOk, OnErr, IsPermutation, None, length, vec_capacity, vec_items, vec_len};
+ghost use Rattle.am_types.specs.Deliver.{Sets, MayCome, AreStored, Waits, settle, deliver as delivered};
+ghost use Rattle.am_types.specs.ValidSets.{Valid};
 ghost use Rattle.am_delivery.specs.Tracking.{Tracks};
 ghost use Rattle.am_delivery.specs.Views.{tracker};
 ghost use Rattle.am_delivery.specs.Waiting.{members_of, waiting_of, remaining, taken_out, all_gone, IsTracked};
@@ -60,6 +60,16 @@ fn take_pending<S: Closed>(
     }
 }
 
+/// What is kept of what the waiting changes lack: nothing where none waits.
+fn kept(waiting: &BTreeMap<Hash, Change>, pending: Pending) -> Option<Pending>
+    ensures { IfSome result (λ kept. kept ≡ pending) }
+{
+    if waiting.is_empty() {
+        return None;
+    }
+    Some(pending)
+}
+
 /// What is left to do when nothing can fail any more.
 #[derive(Drop)]
 struct Outcome {
@@ -71,45 +81,32 @@ struct Outcome {
     rejected: Vec<Rejected>,
 }
 
-/// Delivers changes, but leaves those that wait no longer in the map. The hashes of those that have come into it are put
-/// down.
-fn take_in<S: Closed>(
+/// Settles, and then the closed set comes to rest. Those that wait no longer stay in the map.
+fn bring_to_rest<S: Closed>(
     alloc: Global,
     closed: &mut S,
-    waiting: &mut BTreeMap<Hash, Change>,
+    waiting: &BTreeMap<Hash, Change>,
     pending: &mut Pending,
-    came: &mut Vec<Hash>,
-    changes: Vec<(Hash, Change)>,
+    mut rejected: Vec<Rejected>,
 ) -> Result<Outcome, AllocError>
     requires rest { S.members closed.old ≡ S.base closed.old }
-    requires stored { AreStored (S.members closed.old) (waiting_of waiting.old) }
-    requires may_come { All MayCome (members_of (vec_items changes)) }
-    requires tracks { Tracks (S.members closed.old) (waiting_of waiting.old) (tracker pending.old) }
-    ensures closed { OnOk result (S.members closed.new ≡ (delivered (S.members closed.old) (waiting_of waiting.old) (members_of (vec_items changes))).closed) }
-    ensures waiting { IfOk result (λ o. IsPermutation (delivered (S.members closed.old) (waiting_of waiting.old) (members_of (vec_items changes))).waiting (remaining (all_gone o.gone) (waiting_of waiting.new))) }
-    ensures rejected { IfOk result (λ o. vec_items o.rejected ≡ (delivered (S.members closed.old) (waiting_of waiting.old) (members_of (vec_items changes))).rejected) }
-    ensures joined { IfOk result (λ o. S.members closed.new ≡ S.members closed.old ++ taken_out (vec_items o.gone.joined) (waiting_of waiting.new)) }
-    ensures named { IfOk result (λ o. hashes (taken_out (vec_items o.gone.joined) (waiting_of waiting.new)) ≡ vec_items o.gone.joined) }
+    requires tracks { Tracks (S.members closed.old) (waiting_of waiting.now) (tracker pending.old) }
+    requires valid { Valid (S.members closed.old) }
+    requires waits { All (Waits (S.members closed.old)) (waiting_of waiting.now) }
+    requires admitted { All S.admits (waiting_of waiting.now) }
+    ensures settles { let old : Sets = record { closed = S.members closed.old; waiting = waiting_of waiting.now; rejected = vec_items rejected } in
+        IfOk result (λ o. ◌≡◌ {A = Sets} (record { closed = S.members closed.new; waiting = remaining (all_gone o.gone) (waiting_of waiting.now); rejected = vec_items o.rejected }) (settle old)) }
+    ensures joined { IfOk result (λ o. S.members closed.new ≡ S.members closed.old ++ taken_out (vec_items o.gone.joined) (waiting_of waiting.now)) }
     ensures empty { IfOk result (λ o. vec_items o.room ≡ []) }
     ensures room { IfOk result (λ o. vec_len o.room + length (vec_items o.gone.joined) ≤ vec_capacity o.room) }
-    ensures stored { IfOk result (λ o. AreStored (S.members closed.new) (remaining (all_gone o.gone) (waiting_of waiting.new))) }
-    ensures base { S.base closed.new ≡ S.base closed.old }
-    ensures came { OnOk result ((m : Member) → Contains (waiting_of waiting.new) m → Contains (waiting_of waiting.old ++ members_of (vec_items changes)) m) }
-    ensures tracks { IfOk result (λ o. Tracks (S.members closed.new) (remaining (all_gone o.gone) (waiting_of waiting.new)) (tracker pending.new)) }
-    ensures kept { remaining (vec_items came.new) (waiting_of waiting.new) ≡ remaining (vec_items came.old) (waiting_of waiting.old) }
+    ensures tracks { IfOk result (λ o. Tracks (S.members closed.new) (remaining (all_gone o.gone) (waiting_of waiting.now)) (tracker pending.new)) }
+    ensures rest { OnOk result (S.members closed.new ≡ S.base closed.new) }
+    ensures base { OnErr result (S.base closed.new ≡ S.base closed.old) }
 {
-    let mut rejected = Vec::new(alloc);
-    receive_all(
-        alloc,
-        closed,
-        waiting,
-        pending,
-        came,
-        &mut rejected,
-        changes,
-    )?;
-    let gone = settle_all(alloc, closed, waiting, pending, &mut rejected)?;
+    let mut lent = Vec::new(alloc);
+    let gone = settle_all(alloc, closed, waiting, pending, &mut rejected, &mut lent)?;
     let room = Vec::with_capacity(alloc, gone.joined.len())?;
+    finish_with(alloc, closed, waiting, lent.as_slice())?;
     Ok(Outcome {
         gone,
         room,
@@ -117,7 +114,8 @@ fn take_in<S: Closed>(
     })
 }
 
-/// The same, and the closed set comes to rest. Then nothing is left that can fail.
+/// Delivers changes, but leaves those that wait no longer in the map. The hashes of those that have come into it are put
+/// down. The closed set comes to rest. Then nothing is left that can fail.
 fn take_up<S: Closed>(
     alloc: Global,
     closed: &mut S,
@@ -143,18 +141,27 @@ fn take_up<S: Closed>(
     ensures tracks { IfOk result (λ o. Tracks (S.members closed.new) (remaining (all_gone o.gone) (waiting_of waiting.new)) (tracker pending.new)) }
     ensures kept { remaining (vec_items came.new) (waiting_of waiting.new) ≡ remaining (vec_items came.old) (waiting_of waiting.old) }
 {
-    let outcome = take_in(alloc, closed, waiting, pending, came, changes)?;
-    finish_with(alloc, closed, waiting, outcome.gone.joined.as_slice())?;
+    let mut rejected = Vec::new(alloc);
+    receive_all(
+        alloc,
+        closed,
+        waiting,
+        pending,
+        came,
+        &mut rejected,
+        changes,
+    )?;
+    let outcome = bring_to_rest(alloc, closed, waiting, pending, rejected)?;
     Ok(outcome)
 }
 
 /// Delivers changes, each beside its hash, to a closed set at rest and the changes that wait beside it, and hands out
 /// those that have joined. A change that is held is skipped, and one whose hash another change has is rejected; the
 /// others wait. Then the ready changes, the one of least hash first, join the closed set or are rejected, until none is
-/// ready. What the waiting changes lack is kept in `pending` from delivery to delivery. It takes time in proportion to
-/// n log n, where n changes and dependencies come or wait no longer, beside what the closed set takes; where nothing is
-/// kept, all waiting changes count. The closed set is at rest again. Without memory the same changes wait as before,
-/// nothing is kept of what they lack, and of the closed set only what was at rest is known.
+/// ready. What the waiting changes lack is kept in `pending` from delivery to delivery, and nothing where none waits. It
+/// takes time in proportion to n log n, where n changes and dependencies come or wait no longer, beside what the closed
+/// set takes; where nothing is kept, all waiting changes count. The closed set is at rest again. Without memory the same
+/// changes wait as before, nothing is kept of what they lack, and of the closed set only what was at rest is known.
 pub fn deliver<S: Closed>(
     alloc: Global,
     closed: &mut S,
@@ -189,7 +196,7 @@ pub fn deliver<S: Closed>(
             } = outcome;
             move_all(waiting, gone.joined.as_slice(), &mut joined);
             remove_all(waiting, gone.turned_away.as_slice());
-            *pending = Some(lacking);
+            *pending = kept(waiting, lacking);
             Ok(Settled {
                 joined,
                 rejected: List::from(rejected),

@@ -1,26 +1,26 @@
 //! What the waiting changes lack, by hash: a counter for each, who waits for whom, and a queue of those that lack
 //! nothing.
-ghost use Rattle.std.specs.Prelude.{◌≡◌, ◌+◌, ◌≤◌, ◌==◌, ◌&&◌, ◌||◌, ℕ, ◌<◌, ◌^◌, [], ◌∷◌, ◌++◌, length, map, filter, All, count_by, OnOk, IfSome, IfNone, IsFalse};
+ghost use Rattle.std.specs.Prelude.{◌≡◌, ◌+◌, ◌≤◌, ◌==◌, ◌&&◌, ◌||◌, ◌<◌, ◌^◌, [], ◌∷◌, ◌++◌, length, map, filter, All, count_by, OnOk, IfSome, IfNone, IsFalse, vec_items};
 ghost use Rattle.std.specs.List.{list_any};
 ghost use Rattle.std.specs.Map.{count_at};
-ghost use Rattle.std.specs.BTreeMap.{get};
 ghost use Rattle.std.specs.BTreeSet.{contains};
+ghost use Rattle.std.specs.HashMap.{get};
 ghost use Rattle.am_types.specs.declared.Hash.{Hash as AHash};
 ghost use Rattle.am_types.specs.Order.{hash_cmp, same};
 ghost use Rattle.std.specs.declared.cmp.Ordering.TheVariants.{Less};
 ghost use Rattle.am_delivery.specs.Tracking.{Releases};
-ghost use Rattle.am_delivery.specs.Views.{listed, tracker, is_ready};
+ghost use Rattle.am_delivery.specs.Views.{is_equal, listed, tracker, is_ready};
 
 use am_types::Hash;
 use std::alloc::{AllocError, Global};
-use std::collections::{BTreeMap, BTreeSet};
+use std::collections::{BTreeMap, BTreeSet, HashMap};
 
 /// One dependency less is missing of the change with this hash. Says whether none is missing any more.
-fn count_down(missing: &mut BTreeMap<Hash, u64>, h: &Hash) -> bool
-    requires { 1 ≤ count_at (get hash_cmp missing.old) h.now }
-    ensures one { count_at (get hash_cmp missing.new) h.now + 1 ≡ count_at (get hash_cmp missing.old) h.now }
-    ensures others { (g : AHash) → IsFalse (same hash_cmp h.now g) → get hash_cmp missing.new g ≡ get hash_cmp missing.old g }
-    ensures done { result ≡ (count_at (get hash_cmp missing.new) h.now == 0) }
+fn count_down(missing: &mut HashMap<Hash, u64>, h: &Hash) -> bool
+    requires { 1 ≤ count_at (get is_equal missing.old) h.now }
+    ensures one { count_at (get is_equal missing.new) h.now + 1 ≡ count_at (get is_equal missing.old) h.now }
+    ensures others { (g : AHash) → IsFalse (same hash_cmp h.now g) → get is_equal missing.new g ≡ get is_equal missing.old g }
+    ensures done { result ≡ (count_at (get is_equal missing.new) h.now == 0) }
 {
     let Some(n) = missing.get_mut(h) else {
         return false;
@@ -31,19 +31,30 @@ fn count_down(missing: &mut BTreeMap<Hash, u64>, h: &Hash) -> bool
 
 /// Each of these changes has one dependency less missing, and with none left it is ready.
 fn release(
-    missing: &mut BTreeMap<Hash, u64>,
+    missing: &mut HashMap<Hash, u64>,
     ready: &mut BTreeSet<Hash>,
     waiting: &[Hash],
 ) -> Result<(), AllocError>
-    requires some_missing { (g : AHash) → count_by (same hash_cmp g) waiting.now ≤ count_at (get hash_cmp missing.old) g }
-    ensures counts { OnOk result ((g : AHash) → count_at (get hash_cmp missing.new) g + count_by (same hash_cmp g) waiting.now ≡ count_at (get hash_cmp missing.old) g) }
-    ensures ready { OnOk result ((g : AHash) → contains hash_cmp ready.new g ≡ (contains hash_cmp ready.old g || list_any (same hash_cmp g) waiting.now && count_at (get hash_cmp missing.new) g == 0)) }
+    requires some_missing { (g : AHash) → count_by (same hash_cmp g) waiting.now ≤ count_at (get is_equal missing.old) g }
+    ensures counts { OnOk result ((g : AHash) → count_at (get is_equal missing.new) g + count_by (same hash_cmp g) waiting.now ≡ count_at (get is_equal missing.old) g) }
+    ensures ready { OnOk result ((g : AHash) → contains hash_cmp ready.new g ≡ (contains hash_cmp ready.old g || list_any (same hash_cmp g) waiting.now && count_at (get is_equal missing.new) g == 0)) }
 {
     for h in waiting {
         if count_down(missing, h) {
             ready.insert(*h)?;
         }
     }
+    Ok(())
+}
+
+/// Adds a hash to a list. The first takes no more room than it needs, since most lists have no other.
+fn add(alloc: Global, list: &mut Vec<Hash>, h: Hash) -> Result<(), AllocError>
+    ensures { OnOk result (vec_items list.new ≡ vec_items list.old ++ h ∷ []) }
+{
+    if list.is_empty() {
+        *list = Vec::with_capacity(alloc, 1)?;
+    }
+    list.push(h)?;
     Ok(())
 }
 
@@ -57,12 +68,8 @@ fn note(
     ensures here { OnOk result (listed waiting_for.new d.now ≡ listed waiting_for.old d.now ++ h ∷ []) }
     ensures others { OnOk result ((g : AHash) → IsFalse (same hash_cmp d.now g) → listed waiting_for.new g ≡ listed waiting_for.old g) }
 {
-    let mut list = match waiting_for.remove(d) {
-        Some(list) => list,
-        None => Vec::new(alloc),
-    };
-    list.push(h)?;
-    waiting_for.insert(*d, list)?;
+    let list = waiting_for.entry(*d)?.or_insert(Vec::new(alloc));
+    add(alloc, list, h)?;
     Ok(())
 }
 
@@ -84,7 +91,9 @@ fn note_all(
 /// What the waiting changes lack.
 #[derive(Drop)]
 pub struct Pending {
-    missing: BTreeMap<Hash, u64>,
+    /// By the changes' own hashes, which nobody chooses freely: a table may hash them.
+    missing: HashMap<Hash, u64>,
+    /// By the hashes that changes name, which whoever writes a change chooses: no table is to hash them.
     waiting_for: BTreeMap<Hash, Vec<Hash>>,
     ready: BTreeSet<Hash>,
 }
@@ -97,7 +106,7 @@ impl Pending {
         ensures ready { (tracker result).ready ≡ [] }
     {
         Pending {
-            missing: BTreeMap::new(alloc),
+            missing: HashMap::new(alloc),
             waiting_for: BTreeMap::new(alloc),
             ready: BTreeSet::new(alloc),
         }
@@ -140,9 +149,12 @@ impl Pending {
         ensures ready { OnOk result ((g : AHash) → is_ready self.new g ≡ (is_ready self.old g || same hash_cmp h g && length absent.now == 0)) }
     {
         note_all(alloc, &mut self.waiting_for, absent, h)?;
-        self.missing.insert(h, absent.len() as u64)?;
         if absent.is_empty() {
+            // (it may have come before)
+            self.missing.remove(&h);
             self.ready.insert(h)?;
+        } else {
+            self.missing.insert(h, absent.len() as u64)?;
         }
         Ok(())
     }

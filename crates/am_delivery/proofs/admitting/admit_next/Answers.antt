@@ -6,6 +6,7 @@ use Rattle.am_delivery.specs.Waiting.{waiting_of, remaining, all_gone}
 use Rattle.am_delivery.proofs.Steps.{never_none, turn, tracks_taken, enough, tracks_released, takes_fitting, takes_unfitting, joins, is_fine}
 use Rattle.am_delivery.proofs.Leaving.{gone_first, gone_second}
 use Rattle.am_delivery.proofs.TakenOut.{joins_next, named_next}
+use Rattle.am_delivery.proofs.AtRest.{lent_more}
 use Rattle.am_delivery.proofs.admitting.admit_next.Goals as goal
 
 pub returns-in_default-clause-one : goal.returns-in_default-clause-one
@@ -58,3 +59,7 @@ returns-in_ok-release-in-None-clause-named g c =
     named_next c.args.waiting.now c.len-count.ensures.ordered (vec_items c.args.gone.now.joined) (vec_items c.args.gone.now.turned_away) (record { hash = c.in-Some.hash; change = c.in-Some-get.change.now })
     (turn (g.S.Closed.members c.args.closed.now) c.args.waiting.now c.len-count.ensures.ordered (all_gone c.args.gone.now) (tracker c.args.pending.now) (tracker c.pop.new.self) c.requires.tracks c.requires.waits c.in-Some.hash c.in-Some.ensures.first c.in-Some.ensures.least c.in-Some.ensures.counts c.in-Some.ensures.names _ c.in-Some-get.change.now c.in-Some-get.ensures.value refl).waits
     (vec_items c.push.new.self) (search rules)
+
+pub returns-in_ok-release-in-None-clause-lent : goal.returns-in_ok-release-in-None-clause-lent
+returns-in_ok-release-in-None-clause-lent g c =
+    lent_more c.args.waiting.now c.args.lent.now.items c.push-in-None.new.self.items (vec_items c.args.gone.now.joined) (vec_items c.push.new.self) c.in-Some.hash c.in-Some-get.change (search rules) (search rules) c.in-Some-get.ensures.value

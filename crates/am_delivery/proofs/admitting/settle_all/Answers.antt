@@ -1,8 +1,9 @@
-use Rattle.std.proofs.Common.{rules, ◌≡◌, ◌++◌, List, [], All, vec_items, sym, ap, subst, ◌∙◌, refl, arith}
+use Rattle.std.proofs.Common.{rules, ◌≡◌, ◌++◌, List, [], All, Some, Bor, map, option_map, vec_items, sym, ap, subst, ◌∙◌, refl, arith}
 use Rattle.std.proofs.lemmas.List.{append-nil}
 use Rattle.std.proofs.lemmas.Bool.{MatchBool-at_true, MatchBool-at_false}
+use Rattle.am_types.specs.declared.Change.{Change}
 use Rattle.am_types.specs.declared.Hash.{Hash}
-use Rattle.am_types.specs.Members.{hashes}
+use Rattle.am_types.specs.Members.{Member, hashes, member}
 use Rattle.am_types.specs.Deliver.{Sets, Waits, TakesOne, IsSettled, settle}
 use Rattle.am_laws.proofs.SettleLaws.{settle_taken, settle_idle, fewer_wait}
 use Rattle.am_delivery.specs.Tracking.{Tracks}
@@ -31,6 +32,7 @@ loop-gone-preserved g c =
       joined = c.in_ok-admit_next.ensures.joined (g.S.Closed.members c.args.closed.now) c.loop-gone.invariant.joined;
       named = c.in_ok-admit_next.ensures.named c.loop-gone.invariant.named;
       settles = sym (settle_taken s t took) ∙ c.loop-gone.invariant.settles;
+      lent = c.in_ok-admit_next.ensures.lent c.loop-gone.invariant.lent;
       base = c.in_ok-admit_next.ensures.base ∙ c.loop-gone.invariant.base;
     }
 
@@ -47,6 +49,7 @@ loop-gone-init g c =
       joined = sym (append-nil C) ∙ ap (λ hs. C ++ taken_out hs W) first;
       named = subst (λ (hs : List Hash). hashes (taken_out hs W) ≡ hs) first refl;
       settles = ap (λ V. settle (record { closed = C; waiting = V; rejected = vec_items c.args.rejected.now })) (sym all);
+      lent = (λ i. map (λ (x : Bor Change). Some x.now) (c.requires.none i)) ∙ (λ i. map (λ (h : Hash). option_map (λ (m : Member). m.change) (member W h)) (first i));
       base = refl;
     }
 
@@ -74,3 +77,6 @@ returns-clause-joined g c = c.in_ok-admit_next.ensures.joined (g.S.Closed.member
 
 pub returns-clause-named : goal.returns-clause-named
 returns-clause-named g c = c.in_ok-admit_next.ensures.named c.loop-gone.invariant.named
+
+pub returns-clause-lent : goal.returns-clause-lent
+returns-clause-lent g c = c.in_ok-admit_next.ensures.lent c.loop-gone.invariant.lent

@@ -3,7 +3,7 @@ use Rattle.am_types.specs.Deliver.{Sets, settle}
 use Rattle.am_types.specs.Members.{hashes}
 use Rattle.am_delivery.specs.Tracking.{Tracks}
 use Rattle.am_delivery.specs.Views.{tracker}
-use Rattle.am_delivery.specs.Waiting.{waiting_of, remaining, taken_out, all_gone}
+use Rattle.am_delivery.specs.Waiting.{waiting_of, remaining, taken_out, all_gone, AreLent}
 use Rattle.am_delivery.proofs.Steps.{Kept}
 use Rattle.am_delivery.proofs.admitting.settle_all.Given as goal
 
@@ -17,6 +17,7 @@ invariant-loop-gone g l =
       joined : g.S.Closed.members l.closed ≡ g.S.Closed.members l.fn.closed ++ taken_out (vec_items l.gone.joined) (waiting_of l.waiting);
       named : hashes (taken_out (vec_items l.gone.joined) (waiting_of l.waiting)) ≡ vec_items l.gone.joined;
       settles : settle now ≡ settle first;
+      lent : AreLent l.lent.items (vec_items l.gone.joined) (waiting_of l.waiting);
       base : g.S.Closed.base l.closed ≡ g.S.Closed.base l.fn.closed;
     }
 

@@ -1,8 +1,10 @@
-use Rattle.std.proofs.Common.{rules, ◌≡◌, [], vec_items, sym, ap, subst, ◌∙◌, IsPermutation}
+use Rattle.std.proofs.Common.{rules, ◌≡◌, [], List, Option, Some, None, IfSome, vec_items, sym, ap, subst, ◌∙◌, IsPermutation}
+use Rattle.am_types.specs.Members.{Member}
 use Rattle.am_types.specs.Deliver.{AreStored, deliver as delivered}
 use Rattle.am_delivery.specs.Tracking.{Tracks}
 use Rattle.am_delivery.specs.Views.{tracker}
-use Rattle.am_delivery.specs.Waiting.{members_of, waiting_of, remaining}
+use Rattle.am_delivery.specs.Waiting.{members_of, waiting_of, remaining, IsTracked}
+use Rattle.am_delivery.specs.declared.pending.Pending.{Pending}
 use Rattle.am_delivery.proofs.Leaving.{remaining_nil, both_left}
 use Rattle.am_delivery.proofs.delivering.deliver.Goals as goal
 
@@ -23,7 +25,13 @@ returns-in-Ok-clause-stored g c =
     let left = both_left (vec_items c.in-Ok.outcome.gone.joined) (vec_items c.in-Ok.outcome.gone.turned_away) c.as_slice.result.now c.as_slice-in-Ok.result.now (waiting_of c.take_up.new.waiting) (waiting_of c.move_all.new.waiting) (waiting_of c.remove_all.new.waiting) c.as_slice.ensures.value c.as_slice-in-Ok.ensures.value c.move_all.ensures.left c.remove_all.ensures in
     subst (AreStored (g.S.Closed.members c.take_up.new.closed)) (sym left) c.in-Ok.ensures.stored
 
+-- what is kept is what was tracked
+kept_tracks : (C W : List Member) (p : Pending) (o : Option Pending) → IfSome o (λ k. k ≡ p) → Tracks C W (tracker p) → IsTracked C W o
+kept_tracks C W p None e t = tt
+kept_tracks C W p (Some k) e t = subst (λ q. Tracks C W (tracker q)) (sym e) t
+
 pub returns-in-Ok-clause-tracked : goal.returns-in-Ok-clause-tracked
 returns-in-Ok-clause-tracked g c =
     let left = both_left (vec_items c.in-Ok.outcome.gone.joined) (vec_items c.in-Ok.outcome.gone.turned_away) c.as_slice.result.now c.as_slice-in-Ok.result.now (waiting_of c.take_up.new.waiting) (waiting_of c.move_all.new.waiting) (waiting_of c.remove_all.new.waiting) c.as_slice.ensures.value c.as_slice-in-Ok.ensures.value c.move_all.ensures.left c.remove_all.ensures in
-    subst (λ W. Tracks (g.S.Closed.members c.take_up.new.closed) W (tracker c.take_up.new.pending)) (sym left) c.in-Ok.ensures.tracks
+    kept_tracks (g.S.Closed.members c.take_up.new.closed) (waiting_of c.remove_all.new.waiting) c.take_up.new.pending c.kept.result c.kept.ensures
+    (subst (λ W. Tracks (g.S.Closed.members c.take_up.new.closed) W (tracker c.take_up.new.pending)) (sym left) c.in-Ok.ensures.tracks)

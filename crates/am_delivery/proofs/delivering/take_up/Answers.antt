@@ -1,34 +1,59 @@
-use Rattle.std.proofs.Common.{◌≡◌, ◌++◌, vec_items, sym, subst, ◌∙◌}
-use Rattle.am_types.specs.Members.{hashes}
-use Rattle.am_types.specs.Deliver.{AreStored}
-use Rattle.am_delivery.specs.Tracking.{Tracks}
-use Rattle.am_delivery.specs.Views.{tracker}
-use Rattle.am_delivery.specs.Waiting.{members_of, waiting_of, remaining, all_gone, taken_out}
+use Rattle.std.proofs.Common.{rules, ◌++◌, vec_items, refl}
+use Rattle.am_types.specs.Deliver.{Sets}
+use Rattle.am_delivery.specs.Waiting.{members_of, waiting_of, remaining, all_gone}
 use Rattle.am_delivery.proofs.AtRest.{within_all}
+use Rattle.am_delivery.proofs.Ends.{from_nothing, waits, ends_closed, ends_waiting, ends_rejected, ends_stored}
+use Rattle.am_delivery.proofs.Keeping.{received_within}
 use Rattle.am_delivery.proofs.delivering.take_up.Goals as goal
 
-pub finish_with-requires-clause-joined : goal.finish_with-requires-clause-joined
-finish_with-requires-clause-joined g c =
-    c.in_ok-outcome.ensures.joined ∙ (λ i. (c.requires.rest ∙ sym c.take_in.ensures.base) i ++ taken_out (sym c.as_slice.ensures.value i) (waiting_of c.take_in.new.waiting))
-
-pub finish_with-requires-clause-named : goal.finish_with-requires-clause-named
-finish_with-requires-clause-named g c = subst (λ hs. hashes (taken_out hs (waiting_of c.take_in.new.waiting)) ≡ hs) (sym c.as_slice.ensures.value) c.in_ok-outcome.ensures.named
-
-pub finish_with-requires-clause-admitted : goal.finish_with-requires-clause-admitted
-finish_with-requires-clause-admitted g c =
-    within_all g.S.Closed.admits (waiting_of c.take_in.new.waiting) (waiting_of c.args.waiting.now ++ members_of (vec_items c.args.changes)) c.in_ok-outcome.ensures.came c.requires.admitted
+pub bring_to_rest-requires-clause-waits : goal.bring_to_rest-requires-clause-waits
+bring_to_rest-requires-clause-waits g c =
+    let C = g.S.Closed.members c.args.closed.now in
+    let W = waiting_of c.args.waiting.now in
+    let L = members_of (vec_items c.args.changes) in
+    let t : Sets = record { closed = C; waiting = waiting_of c.receive_all.new.waiting; rejected = vec_items c.receive_all.new.rejected } in
+    waits C W L c.requires.stored c.requires.may_come t refl (from_nothing C W L t (vec_items c.new-rejected.result) (search rules) c.in_ok-receive_all.ensures.alike)
 
 pub returns-clause-closed : goal.returns-clause-closed
-returns-clause-closed g c = c.in_ok-finish_with.ensures.members ∙ c.in_ok-outcome.ensures.closed
+returns-clause-closed g c =
+    let C = g.S.Closed.members c.args.closed.now in
+    let W = waiting_of c.args.waiting.now in
+    let L = members_of (vec_items c.args.changes) in
+    let t : Sets = record { closed = C; waiting = waiting_of c.receive_all.new.waiting; rejected = vec_items c.receive_all.new.rejected } in
+    let new : Sets = record { closed = g.S.Closed.members c.bring_to_rest.new.closed; waiting = remaining (all_gone c.in_ok-outcome.outcome.gone) (waiting_of c.receive_all.new.waiting); rejected = vec_items c.in_ok-outcome.outcome.rejected } in
+    ends_closed C W L c.requires.stored c.requires.may_come t refl (from_nothing C W L t (vec_items c.new-rejected.result) (search rules) c.in_ok-receive_all.ensures.alike) new c.in_ok-outcome.ensures.settles
 
-pub returns-clause-joined : goal.returns-clause-joined
-returns-clause-joined g c = c.in_ok-finish_with.ensures.members ∙ c.in_ok-outcome.ensures.joined
+pub returns-clause-waiting : goal.returns-clause-waiting
+returns-clause-waiting g c =
+    let C = g.S.Closed.members c.args.closed.now in
+    let W = waiting_of c.args.waiting.now in
+    let L = members_of (vec_items c.args.changes) in
+    let t : Sets = record { closed = C; waiting = waiting_of c.receive_all.new.waiting; rejected = vec_items c.receive_all.new.rejected } in
+    let new : Sets = record { closed = g.S.Closed.members c.bring_to_rest.new.closed; waiting = remaining (all_gone c.in_ok-outcome.outcome.gone) (waiting_of c.receive_all.new.waiting); rejected = vec_items c.in_ok-outcome.outcome.rejected } in
+    ends_waiting C W L c.requires.stored c.requires.may_come t refl (from_nothing C W L t (vec_items c.new-rejected.result) (search rules) c.in_ok-receive_all.ensures.alike) new c.in_ok-outcome.ensures.settles
+
+pub returns-clause-rejected : goal.returns-clause-rejected
+returns-clause-rejected g c =
+    let C = g.S.Closed.members c.args.closed.now in
+    let W = waiting_of c.args.waiting.now in
+    let L = members_of (vec_items c.args.changes) in
+    let t : Sets = record { closed = C; waiting = waiting_of c.receive_all.new.waiting; rejected = vec_items c.receive_all.new.rejected } in
+    let new : Sets = record { closed = g.S.Closed.members c.bring_to_rest.new.closed; waiting = remaining (all_gone c.in_ok-outcome.outcome.gone) (waiting_of c.receive_all.new.waiting); rejected = vec_items c.in_ok-outcome.outcome.rejected } in
+    ends_rejected C W L c.requires.stored c.requires.may_come t refl (from_nothing C W L t (vec_items c.new-rejected.result) (search rules) c.in_ok-receive_all.ensures.alike) new c.in_ok-outcome.ensures.settles
 
 pub returns-clause-stored : goal.returns-clause-stored
-returns-clause-stored g c = subst (λ C. AreStored C (remaining (all_gone c.in_ok-outcome.outcome.gone) (waiting_of c.take_in.new.waiting))) (sym c.in_ok-finish_with.ensures.members) c.in_ok-outcome.ensures.stored
+returns-clause-stored g c =
+    let C = g.S.Closed.members c.args.closed.now in
+    let W = waiting_of c.args.waiting.now in
+    let L = members_of (vec_items c.args.changes) in
+    let t : Sets = record { closed = C; waiting = waiting_of c.receive_all.new.waiting; rejected = vec_items c.receive_all.new.rejected } in
+    let new : Sets = record { closed = g.S.Closed.members c.bring_to_rest.new.closed; waiting = remaining (all_gone c.in_ok-outcome.outcome.gone) (waiting_of c.receive_all.new.waiting); rejected = vec_items c.in_ok-outcome.outcome.rejected } in
+    ends_stored C W L c.requires.stored c.requires.may_come t refl (from_nothing C W L t (vec_items c.new-rejected.result) (search rules) c.in_ok-receive_all.ensures.alike) new c.in_ok-outcome.ensures.settles
 
-pub returns-clause-rest : goal.returns-clause-rest
-returns-clause-rest g c = c.in_ok-finish_with.ensures.members ∙ sym c.in_ok-finish_with.ensures.rest
-
-pub returns-clause-tracks : goal.returns-clause-tracks
-returns-clause-tracks g c = subst (λ C. Tracks C (remaining (all_gone c.in_ok-outcome.outcome.gone) (waiting_of c.take_in.new.waiting)) (tracker c.take_in.new.pending)) (sym c.in_ok-finish_with.ensures.members) c.in_ok-outcome.ensures.tracks
+pub bring_to_rest-requires-clause-admitted : goal.bring_to_rest-requires-clause-admitted
+bring_to_rest-requires-clause-admitted g c =
+    let W = waiting_of c.args.waiting.now in
+    let L = members_of (vec_items c.args.changes) in
+    let s : Sets = record { closed = g.S.Closed.members c.args.closed.now; waiting = W; rejected = vec_items c.new-rejected.result } in
+    let t : Sets = record { closed = g.S.Closed.members c.args.closed.now; waiting = waiting_of c.receive_all.new.waiting; rejected = vec_items c.receive_all.new.rejected } in
+    within_all g.S.Closed.admits (waiting_of c.receive_all.new.waiting) (W ++ L) (received_within s t W L refl c.in_ok-receive_all.ensures.alike) c.requires.admitted

@@ -1,7 +1,7 @@
-use Rattle.std.proofs.Common.{rules, arith, ◌≡◌, ◌≢◌, ◌+◌, ◌-◌, ◌≤◌, ◌<◌, ◌==◌, ◌&&◌, ◌||◌, ℕ, zero, suc, Bool, true, false, List, [], length, get_or, take, count_by, cond, eqb, refl, ap, sym, ◌∙◌, subst, inl, inr, ◌⊎◌, BTreeSet, BTreeMap}
+use Rattle.std.proofs.Common.{arith, ◌≡◌, ◌+◌, ◌-◌, ◌≤◌, ◌<◌, ◌==◌, ◌&&◌, ◌||◌, ℕ, Bool, true, false, List, [], length, get_or, take, count_by, cond, eqb, refl, ap, sym, ◌∙◌, subst, inl, inr, BTreeSet}
 use Rattle.std.specs.List.{list_any}
 use Rattle.std.specs.Map.{count_at}
-use Rattle.std.specs.BTreeMap.{get}
+use Rattle.std.specs.HashMap.{get}
 use Rattle.std.specs.BTreeSet.{contains, Updates}
 use Rattle.std.proofs.lemmas.Bool.{ne_eqb, cases_Bool, or_right, and_from}
 use Rattle.std.proofs.lemmas.Cmp.{eq_by_cmp_equiv}
@@ -10,6 +10,7 @@ use Rattle.std.proofs.lemmas.List.Folds.{list_any_more}
 use Rattle.am_types.specs.declared.Hash.{Hash}
 use Rattle.am_types.specs.Order.{hash_cmp, same}
 use Rattle.am_types.proofs.Orders.{hash_total, same_hash-true, same_hash_itself}
+use Rattle.am_delivery.specs.Views.{is_equal}
 use Rattle.am_delivery.proofs.pending.release.Goals.{then-count_down+in_ok-insert, else-count_down}
 use Rattle.am_delivery.proofs.pending.release.Goals as goal
 
@@ -104,12 +105,12 @@ loop-h-preserved c =
     let i = c.loop-h.h-index in
     let ws = c.args.waiting.now in
     let l = c.loop-h-test.true in
-    let f = count_at (get hash_cmp c.loop-h.missing) in
-    let g = count_at (get hash_cmp c.count_down.new.missing) in
+    let f = count_at (get is_equal c.loop-h.missing) in
+    let g = count_at (get is_equal c.count_down.new.missing) in
     let one = c.count_down.ensures.one in
     let others : (h : Hash) → same hash_cmp (get_or ws i none) h ≡ false → g h ≡ f h = λ h n. ap (λ o. Rattle.std.proofs.Common.unwrap_or o 0) (c.count_down.ensures.others h n) in
     record {
-      counts = λ h. down ws i none l f g one others h (count_at (get hash_cmp c.args.missing.now) h) (c.loop-h.invariant.counts h);
+      counts = λ h. down ws i none l f g one others h (count_at (get is_equal c.args.missing.now) h) (c.loop-h.invariant.counts h);
       ready = λ h. elim c.if-count_down.branch [
         | then-count_down+in_ok-insert w ↦ rw w.ready-is (inserted ws i none l f g one others c.args.ready.now c.loop-h.ready w.insert.new.self c.loop-h.invariant.ready w.in_ok-insert.ensures.updates (sym c.count_down.ensures.done ∙ w.if-count_down.true) h)
         | else-count_down w ↦ kept ws i none l f g one others c.args.ready.now c.loop-h.ready c.if-count_down.ready c.loop-h.invariant.ready w.ready-is (sym c.count_down.ensures.done ∙ w.if-count_down.false) h
