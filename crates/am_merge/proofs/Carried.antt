@@ -9,9 +9,7 @@ use Rattle.std.proofs.lemmas.List.Concat.{flat_map-append}
 use Rattle.am_types.specs.declared.IdRef.{IdRef}
 use Rattle.am_types.specs.declared.OpId.{OpId}
 use Rattle.am_types.specs.declared.Row.{Row}
-use Rattle.am_types.specs.Operations.{Operation}
 use Rattle.am_types.specs.Order.{id_cmp}
-use Rattle.am_types.specs.Rows as document
 use Rattle.am_types.specs.Views.{id_of}
 use Rattle.am_fields.specs.Layout.{flat}
 use Rattle.am_doccols.specs.Conditions.{HasRoom, IsRowFor, succ_count}
@@ -229,10 +227,6 @@ copies_room a w n rs h =
     (subst (HasRoomFor h.rows) (carried_copies n rs (copies_enough a w n rs h)) h.room)
 
 -- ---- fields of rows
-
-pub put_is : (f : RowFields) (x : Operation) (ids : List IdRef) (s : List OpId) → row_with f [] ≡ document.row_of [] x → map id_of ids ≡ s
-    → row_with f (map id_of ids) ≡ document.row_of s x
-put_is f x ids s e h = (λ i. record (e i) { succs = map id_of ids }) ∙ ap (λ l. document.row_of l x) h
 
 pub extend_is : (f : RowFields) (row : RowRef) (ids : List IdRef) (s : List OpId) → row_with f row.succs ≡ row_of row → map id_of ids ≡ s
     → row_with f (map id_of ids) ≡ record (row_of row) { succs = s }

@@ -1,5 +1,5 @@
 -- Names compare as their fronts do, where these differ.
-use Rattle.std.proofs.Common.{ℕ, zero, suc, ◌≡◌, ◌+◌, ◌*◌, ◌-◌, ◌^◌, ◌<◌, ◌≤◌, List, [], ◌∷◌, drop, get_or, length, refl, sym, ap, ◌∙◌, subst, inl, inr, arith}
+use Rattle.std.proofs.Common.{ℕ, zero, suc, ◌≡◌, ◌+◌, ◌*◌, ◌-◌, ◌^◌, ◌<◌, ◌≤◌, List, [], ◌∷◌, drop, get_or, length, min, refl, sym, ap, ◌∙◌, subst, inl, inr, arith}
 use Rattle.std.proofs.Math.Nat.{pow-le-pow_right, pow-suc}
 use Rattle.std.specs.Cmp.{nat_cmp_is, ranks}
 use Rattle.std.specs.Ordering.{MatchOrdering, nat_cmp, ordering_reverse, ordering_then}
@@ -18,7 +18,7 @@ tail_of : (x : ℕ) (xs : List ℕ) → IsBytes (x ∷ xs) → IsBytes xs
 tail_of x xs h = All-tail (λ b. b < 2 ^ 8) x xs h
 
 -- the digits before tell first
-lower : (n m k : ℕ) (xs ys : List ℕ) → n < m → IsBytes xs → spelled n k xs < spelled m k ys
+pub lower : (n m k : ℕ) (xs ys : List ℕ) → n < m → IsBytes xs → spelled n k xs < spelled m k ys
 lower n m zero xs ys l bx = l
 lower n m (suc k) [] [] l bx = lower (n * 256) (m * 256) k [] [] (omega arith) bx
 lower n m (suc k) [] (y ∷ ys) l bx = lower (n * 256) (m * 256 + y) k [] ys (omega arith) bx
@@ -127,3 +127,13 @@ pub after : (xs ys : List ℕ) (m n : ℕ) → IsBytes xs → IsBytes ys → m �
 after xs ys m n bx by em en e =
     let l : n < m = subst (λ r. MatchOrdering r (m < n) (m ≡ n) (n < m)) e (ranks m n) in
     nat_list_cmp_total.antisymm xs ys ∙ ap ordering_reverse (less 0 16 ys xs by bx (subst (λ k. k < front_of xs) en (subst (λ k. n < k) em l)))
+
+-- the lengths of names that have one front tell, where both are short; longer ones count 17
+short_is : (l m : ℕ) → m ≡ min l 17 → m ≤ 16 → l ≡ m
+short_is l m e few = omega arith
+
+pub ends_alike : (xs ys : List ℕ) (m n : ℕ) → IsBytes xs → IsBytes ys → front_of xs ≡ front_of ys → m ≡ min (length xs) 17 → n ≡ min (length ys) 17 → m ≤ 16 → n ≤ 16 → nat_cmp m n ≡ bytes_cmp xs ys
+ends_alike xs ys m n bx by front e f few fewer =
+    let x = short_is (length xs) m e few in
+    let y = short_is (length ys) n f fewer in
+    (λ i. nat_cmp (sym x i) (sym y i)) ∙ sym (alike 0 16 xs ys bx by (omega (arith, x, few)) (omega (arith, y, fewer)) front)

@@ -46,6 +46,7 @@ pub mod Unnamed
 pub mod Carried
 pub mod RowsText
 pub mod Fronts
+pub mod Keys
 pub mod Bucketed
 pub mod Linked
 pub mod HasCounter

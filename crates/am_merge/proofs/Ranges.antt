@@ -111,6 +111,16 @@ module _ {X : Type 0} (p : X → Bool) (xs : List X) (k : ℕ) (parted : IsParti
         | inr g ↦ within j d g b
       ]
 
+-- what holds at a place and behind it
+pub within_first : {X : Type 0} (p : X → Bool) (xs : List X) (first last : ℕ) → ((d : X) → p (get_or xs first d) ≡ true)
+    → AllWithin (λ x. p x ≡ true) xs (first + 1) last → AllWithin (λ x. p x ≡ true) xs first last
+within_first p xs first last here within j d a b = elim (cases_lt first j) [
+  | inl l ↦ within j d (omega arith) b
+  | inr g ↦
+      let e : first ≡ j = omega arith in
+      subst (λ k. p (get_or xs k d) ≡ true) e (here d)
+]
+
 -- ---- cut where a test fails
 
 abbrev Parts : {X : Type 0} → (X → Bool) → List X → ℕ → Type 0

@@ -5,7 +5,8 @@
 --     taking es             how many old rows the events es take
 --     CanCarry a w es rs    a writer that holds w, and whose places name the actors a, has room for the rows that the events es
 --                           make of the rows rs, each of which may be written; and there are enough of these
---     CanPut t a w y        the row of the operation y, with those as successors that the tables t tell, may be written behind w
+--     CanPut t a w y        a writer that holds w, and whose places name the actors a, may be given the row of the operation y,
+--                           with those as successors that the tables t tell
 use Rattle.std.specs.Prelude.{◌≡◌, ℕ, ◌+◌, ◌≤◌, Bool, false, List, [], ◌∷◌, map, length, Option, Some, IfSome}
 use Rattle.std.specs.List.{AllByRecursion}
 use Rattle.std.specs.Ordering.{is_gt}

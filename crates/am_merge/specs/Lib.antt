@@ -7,6 +7,7 @@ pub mod Walk
 pub mod Stacks
 pub mod Spots
 pub mod Naming
+pub mod Mentions
 pub mod Stops
 pub mod Carrying
 pub mod Places

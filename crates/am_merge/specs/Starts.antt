@@ -3,10 +3,17 @@
 --     turn_cmp s t          by the ids of insertions, the greatest first
 --     start_lane_cmp s t    within one object
 --     by_start x y          by object, then by lane, name and turn
+--     start_key o l n       a number for what stands in the lane l of the object o, at a name with the front n: for the root
+--                           the lane and the first 62 bits of the name, and behind all these the counters of other objects
+--     key_at x              that of an operation: the lesser key comes first, and where keys are the same, they tell no order
+use Rattle.std.specs.Prelude.{ℕ, ◌+◌, ◌*◌, ◌/◌, ◌^◌, min}
 use Rattle.std.specs.Ordering.{nat_cmp, on, then_cmp}
 use Rattle.std.specs.declared.cmp.Ordering.{Ordering}
+use Rattle.am_types.specs.declared.ObjId.{ObjId}
+use Rattle.am_types.specs.declared.ObjId.TheVariants.{Root, Made}
 use Rattle.am_types.specs.Order.{bytes_cmp, object_cmp}
 use Rattle.am_types.specs.Operations.{Operation}
+use Rattle.am_merge.specs.Fronts.{front_at}
 use Rattle.am_merge.specs.Walk.{Spot, falling_cmp, falling_id, lane_of, name_in, spot_of}
 
 abbrev pub turn_cmp : Spot → Spot → Ordering
@@ -17,3 +24,11 @@ start_lane_cmp = then_cmp (on (λ s. lane_of s.insert s.key) nat_cmp) (then_cmp 
 
 abbrev pub by_start : Operation → Operation → Ordering
 by_start = on spot_of (then_cmp (on (λ s. s.obj) object_cmp) start_lane_cmp)
+
+-- counters from 2 ^ 61 on have one number
+abbrev pub start_key : ObjId → ℕ → ℕ → ℕ
+start_key Root l n = l * 2 ^ 62 + n / 2 ^ 66
+start_key (Made i) l n = 3 * 2 ^ 62 + min i.counter (2 ^ 61)
+
+abbrev pub key_at : Operation → ℕ
+key_at x = start_key x.op.obj (lane_of x.op.insert x.op.key) (front_at x)

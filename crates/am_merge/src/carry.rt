@@ -1,6 +1,5 @@
 //! The rows of the larger set: written from the old rows and the stops of the walk over them.
 ghost use Rattle.std.specs.Prelude.{◌≡◌, ◌≤◌, ◌<◌, ◌∷◌, ◌++◌, [], List, Some, drop, length, map, slice_range, true, IfOk, IfSome, OnOk};
-ghost use Rattle.std.specs.List.{AllByRecursion};
 ghost use Rattle.std.specs.Ordering.{is_gt};
 ghost use Rattle.am_types.specs.declared.OpId.{OpId};
 ghost use Rattle.am_types.specs.Order.{id_cmp};
@@ -10,8 +9,6 @@ ghost use Rattle.am_places.specs.Numbered.{operation_of};
 ghost use Rattle.am_colmeta.specs.Metadata.{metadata, listing, body};
 ghost use Rattle.am_doccols.specs.Columns.{written_rows};
 ghost use Rattle.am_doccols.specs.Conditions.{HasRoom, IsRowFor};
-ghost use Rattle.am_doccols.specs.Front.{HasRoomFor};
-ghost use Rattle.am_doccols.specs.Lent.{row_with};
 ghost use Rattle.am_doccols.specs.Rows.{row_of};
 ghost use Rattle.am_merge.specs.Carrying.{CanCarry, extended_by, ids_of, is_less_first, taking};
 ghost use Rattle.am_merge.specs.Merge.{merge};
@@ -21,27 +18,10 @@ ghost use Rattle.am_merge.specs.Stops.{copies, event_of, events_of};
 
 use crate::naming::Naming;
 use crate::stops::Stop;
-use am_doccols::{RowCursor, RowFields, RowGatherer, RowRef, SuccCursor};
-use am_fields::text_in;
+use am_doccols::{RowCursor, RowGatherer, RowRef, SuccCursor};
 use am_places::Numbered;
 use am_types::{ActorId, Bytes, IdRef, compare_ids};
 use std::alloc::{AllocError, Global};
-
-// The fields of the row of an operation.
-fn new_fields<'a>(x: &Numbered<'a>) -> RowFields<'a>
-    ensures { row_with result [] ≡ document.row_of [] (operation_of x.now) }
-{
-    RowFields {
-        obj: x.op.obj.lend(),
-        key: x.op.key.lend(),
-        id: x.id(),
-        insert: x.op.insert,
-        action: x.op.action,
-        value: x.op.value.lend(),
-        expand: x.op.expand,
-        mark: text_in(&x.op.mark),
-    }
-}
 
 // The ids of the operations go behind the others.
 fn push_ids<'a>(ids: &mut Vec<IdRef<'a>>, added: &[Naming<'a>]) -> Result<(), AllocError>
@@ -54,13 +34,13 @@ fn push_ids<'a>(ids: &mut Vec<IdRef<'a>>, added: &[Naming<'a>]) -> Result<(), Al
     Ok(())
 }
 
-// The ids of the operations.
-fn ids_in<'a>(alloc: Global, added: &[Naming<'a>]) -> Result<Vec<IdRef<'a>>, AllocError>
-    ensures { IfOk result (λ ids. map id_of ids.items ≡ ids_of added.now) }
+// The ids of the operations, in place of what is there.
+fn set_ids<'a>(ids: &mut Vec<IdRef<'a>>, added: &[Naming<'a>]) -> Result<(), AllocError>
+    ensures { OnOk result (map id_of ids.new.items ≡ ids_of added.now) }
 {
-    let mut ids = Vec::new(alloc);
-    push_ids(&mut ids, added)?;
-    Ok(ids)
+    ids.clear();
+    push_ids(ids, added)?;
+    Ok(())
 }
 
 // Whether the operation comes before an old successor.
@@ -122,9 +102,9 @@ fn merged<'a>(
     Ok(ids)
 }
 
-/// The row of a new operation.
+/// The row of a new operation. The list is there for its room.
 pub fn put_row<'a>(
-    alloc: Global,
+    room: &mut Vec<IdRef<'a>>,
     writer: &mut RowGatherer<'a>,
     x: &Numbered<'a>,
     added: &[Naming<'a>],
@@ -134,8 +114,8 @@ pub fn put_row<'a>(
     ensures actors { writer.new.0 ≡ writer.old.0 }
     ensures ok { OnOk result (IfSome writer.old.1 (λ rows. writer.new.1 ≡ Some (rows ++ document.row_of (ids_of added.now) (operation_of x.now) ∷ []))) }
 {
-    let succs = ids_in(alloc, added)?;
-    writer.push_lent(new_fields(x), succs.as_slice())?;
+    set_ids(room, added)?;
+    writer.push_op(x.id(), x.op, room.as_slice())?;
     Ok(())
 }
 
@@ -211,7 +191,8 @@ fn at_stop<'a>(
     let added = added_at(named, stop);
     match stop.put {
         Some(x) => {
-            put_row(alloc, writer, &x, added)?;
+            let mut room = Vec::new(alloc);
+            put_row(&mut room, writer, &x, added)?;
             Ok(())
         }
         None => {

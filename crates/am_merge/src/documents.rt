@@ -51,11 +51,11 @@ pub(crate) fn merged_with(
     joined(alloc, actors, heads.as_slice(), &metas, rows, &suffix)
 }
 
-/// The contents of the document of a larger set, from the document of the smaller one, which is read in place, and the added
-/// changes. The graph is that of both, and lists the changes of the document first. One walk over the old rows decides where
-/// what is added goes, and a second pass writes, stretches that nothing is added to by runs; no old row is taken apart into owned
-/// parts. Where there are none, rows are written as the walk goes. It takes time in n log m + m log m, of n old rows and m added operations and what they name, and beside that in the
-/// number of changes times that of actors.
+/// The contents of the document of a larger set, from the document of the smaller one, which is read in place, and the
+/// added changes. The graph is that of both, and lists the changes of the document first. One walk over the old rows decides
+/// where what is added goes, and a second pass writes, stretches that nothing is added to by runs; no old row is taken apart
+/// into owned parts. Where there are none, rows are written as the walk goes. It takes time in n log m + m log m, of n old
+/// rows and m added operations and what they name, and beside that in the number of changes times that of actors.
 pub fn merge(
     alloc: Global,
     doc: &DocRef<'_>,

@@ -15,12 +15,12 @@ use crate::naming::{Tables, named_in};
 use crate::stops::push_hung;
 use am_doccols::RowGatherer;
 use am_places::Numbered;
-use am_types::{ActorId, Bytes, MOST_OPERATIONS, ObjRef};
+use am_types::{ActorId, Bytes, IdRef, MOST_OPERATIONS, ObjRef};
 use std::alloc::{AllocError, Global};
 
 // The row of an operation that comes.
 fn put_new<'a>(
-    alloc: Global,
+    room: &mut Vec<IdRef<'a>>,
     writer: &mut RowGatherer<'a>,
     tables: &Tables<'a>,
     y: Numbered<'a>,
@@ -31,7 +31,7 @@ fn put_new<'a>(
 {
     let near = tables.named_guide.about(y.counter);
     let added = named_in(tables.named.as_slice(), near, ObjRef::Root, y.id());
-    put_row(alloc, writer, &y, added)?;
+    put_row(room, writer, &y, added)?;
     Ok(())
 }
 
@@ -49,13 +49,14 @@ fn put_all<'a>(
     ensures rows { OnOk result (writer.new.1 ≡ Some (carried (walk_out (map operation_of operations.now) 4194304 (beginning (map operation_of operations.now))) [])) }
 {
     let mut waiting = beginning(alloc, operations)?;
+    let mut room = Vec::new(alloc);
     let mut left = MOST_OPERATIONS;
     'rest: while left > 0 {
         let Some(y) = waiting.pop() else {
             return Ok(());
         };
         left -= 1;
-        put_new(alloc, writer, tables, y)?;
+        put_new(&mut room, writer, tables, y)?;
         push_hung(&mut waiting, tables, y.op.insert, y.op.obj.lend(), y.id())?;
     }
     Ok(())

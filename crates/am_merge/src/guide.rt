@@ -6,12 +6,12 @@ use crate::naming::Naming;
 use std::alloc::{AllocError, Global};
 use std::marker::Model;
 
-/// From where a table has the ids of each bucket of counters. Contracts see the buckets alone: who takes a guess sees whether it
-/// is right.
+/// From where a table has the ids of each bucket of counters. Contracts see the buckets alone: who takes a guess sees
+/// whether it is right.
 #[derive(Drop)]
 pub struct Guide {
     buckets: Buckets,
-    starts: Vec<usize>,
+    starts: Vec<u32>,
 }
 
 impl Model for Guide {
@@ -40,7 +40,9 @@ fn buckets_in(table: &[Naming<'_>]) -> Buckets
 }
 
 // The buckets up to this one, as far as they have no start, start here.
-fn start_up_to(starts: &mut Vec<usize>, bucket: usize, place: usize) -> Result<(), AllocError> {
+fn start_up_to(starts: &mut Vec<u32>, bucket: usize, place: usize) -> Result<(), AllocError> {
+    // (a guess needs no more bits)
+    let place = place.min(u32::MAX as usize) as u32;
     for _ in starts.len()..bucket.saturating_add(1) {
         starts.push(place)?;
     }
@@ -48,11 +50,7 @@ fn start_up_to(starts: &mut Vec<usize>, bucket: usize, place: usize) -> Result<(
 }
 
 // Where each bucket of a sorted table starts.
-fn starts_in(
-    alloc: Global,
-    table: &[Naming<'_>],
-    buckets: Buckets,
-) -> Result<Vec<usize>, AllocError>
+fn starts_in(alloc: Global, table: &[Naming<'_>], buckets: Buckets) -> Result<Vec<u32>, AllocError>
     requires width { 0 < buckets.width }
     requires count { 0 < buckets.count }
 {
@@ -75,7 +73,7 @@ impl Guide {
     pub fn about(&self, counter: u64) -> usize {
         match self.starts.as_slice().get(bucket_of(self.buckets, counter)) {
             None => 0,
-            Some(start) => *start,
+            Some(start) => *start as usize,
         }
     }
 }

@@ -12,6 +12,7 @@ mod front;
 mod guide;
 mod laws;
 mod lookup;
+mod mentions;
 mod metas;
 mod naming;
 mod order;

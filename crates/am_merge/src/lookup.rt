@@ -4,14 +4,15 @@ ghost use Rattle.am_merge.specs.Places.{place_in, TellsPlaces};
 
 use am_types::{Hash, List};
 use std::alloc::{AllocError, Global};
-use std::collections::BTreeMap;
+use std::collections::HashMap;
 use std::marker::Model;
 
-/// A list of hashes, in which each is found in the logarithm of their number. Contracts see the list.
+/// A list of hashes, in which each is found in one look: they are of changes that are held, digests that nobody chooses
+/// freely, so they may be hashed. Contracts see the list.
 #[derive(Drop)]
 pub struct Places<'a> {
     hashes: &'a [Hash],
-    by_hash: BTreeMap<Hash, u64>,
+    by_hash: HashMap<Hash, u64>,
 }
 
 impl<'a> Model for Places<'a> {
@@ -27,10 +28,10 @@ impl<'a> Model for Places<'a> {
 }
 
 // The place of each of these hashes, from 0; the first, where a hash stands at more than one.
-fn places_of(alloc: Global, hashes: &[Hash]) -> Result<BTreeMap<Hash, u64>, AllocError>
+fn places_of(alloc: Global, hashes: &[Hash]) -> Result<HashMap<Hash, u64>, AllocError>
     ensures { IfOk result (λ places. TellsPlaces hashes.now places) }
 {
-    let mut places = BTreeMap::new(alloc);
+    let mut places = HashMap::with_capacity(alloc, hashes.len())?;
     let mut i = hashes.len();
     while i > 0 {
         i -= 1;

@@ -1,20 +1,16 @@
 //! What added operations name, in tables that are searched by it.
-ghost use Rattle.std.specs.Prelude.{◌≡◌, ◌≤◌, ◌<◌, ◌∷◌, ◌++◌, [], List, false, filter, length, map, reverse, slice_index_or, slice_range, true, IfOk, IfSome, OnOk};
+ghost use Rattle.std.specs.Prelude.{◌≡◌, ◌≤◌, ◌<◌, List, false, filter, length, map, slice_index_or, slice_range, true, IfSome};
 ghost use Rattle.std.specs.List.{AllWithin};
 ghost use Rattle.std.specs.Ordering.{is_le, is_lt, ordering_then};
 ghost use Rattle.am_types.specs.Order.{bytes_cmp, object_cmp, sorted_by};
 ghost use Rattle.am_types.specs.Views.{id_of, object_of};
-ghost use Rattle.am_places.specs.Numbered.{operation_of};
-ghost use Rattle.am_merge.specs.Naming.{IsSeam, Named, is_named, key_cmp, named_cmp, named_key, named_of, naming_each, predecessors, reference, references};
-ghost use Rattle.am_merge.specs.Walk.{gives_value, hanging, inserts};
+ghost use Rattle.am_merge.specs.Naming.{IsSeam, Named, is_named, key_cmp, named_cmp, named_key, named_of, predecessors};
+ghost use Rattle.am_merge.specs.Walk.{hanging};
 ghost use Rattle.am_merge.specs.declared.naming.Naming.{Naming as ANaming};
 
-use crate::buckets::{HasCounter, sort_by_counter};
 use crate::guide::Guide;
 use am_places::Numbered;
-use am_types::actions::DELETE;
-use am_types::{IdRef, Key, ObjRef, compare_actors, compare_objects};
-use std::alloc::{AllocError, Global};
+use am_types::{IdRef, ObjRef, compare_actors, compare_objects};
 use std::cmp::Ordering;
 use std::mem::size_of;
 
@@ -42,110 +38,8 @@ pub struct Tables<'a> {
 // How far past a guess a place is sought before it is sought in a whole table.
 const REACH: usize = 12;
 
-// It stands beside each of its predecessors.
-fn push_predecessors<'a>(all: &mut Vec<Naming<'a>>, x: Numbered<'a>) -> Result<(), AllocError>
-    ensures { OnOk result (map named_of all.new.items ≡ map named_of all.old.items ++ naming_each (operation_of x.entry)) }
-{
-    let preds = x.op.preds.as_slice();
-    for i in 0..preds.len() {
-        all.push(Naming {
-            hangs: false,
-            id: preds[i].lend(),
-            operation: x,
-        })?;
-    }
-    Ok(())
-}
-
-/// The operations, beside each of their predecessors.
-pub fn predecessors<'a>(
-    alloc: Global,
-    operations: &[Numbered<'a>],
-) -> Result<Vec<Naming<'a>>, AllocError>
-    ensures { IfOk result (λ all. map named_of all.items ≡ predecessors (map operation_of operations.now)) }
-{
-    let mut all = Vec::new(alloc);
-    for i in 0..operations.len() {
-        push_predecessors(&mut all, operations[i])?;
-    }
-    Ok(all)
-}
-
-// It stands beside the element that it names, if it names one.
-fn push_reference<'a>(all: &mut Vec<Naming<'a>>, x: Numbered<'a>) -> Result<(), AllocError>
-    ensures { OnOk result (map named_of all.new.items ≡ map named_of all.old.items ++ reference (operation_of x.entry)) }
-{
-    if let Key::Elem(id) = &x.op.key {
-        all.push(Naming {
-            hangs: true,
-            id: id.lend(),
-            operation: x,
-        })?;
-    }
-    Ok(())
-}
-
-// If it is an insertion.
-fn push_insertion<'a>(all: &mut Vec<Naming<'a>>, x: Numbered<'a>) -> Result<(), AllocError>
-    ensures { OnOk result (map named_of all.new.items ≡ map named_of all.old.items ++ references (filter inserts (operation_of x.entry ∷ []))) }
-{
-    if x.op.insert {
-        return push_reference(all, x);
-    }
-    Ok(())
-}
-
-// If it has a row and is no insertion.
-fn push_value<'a>(all: &mut Vec<Naming<'a>>, x: Numbered<'a>) -> Result<(), AllocError>
-    ensures { OnOk result (map named_of all.new.items ≡ map named_of all.old.items ++ references (filter gives_value (operation_of x.entry ∷ []))) }
-{
-    if x.op.insert {
-        return Ok(());
-    }
-    if x.op.action == DELETE {
-        return Ok(());
-    }
-    push_reference(all, x)
-}
-
-// The insertions among the operations.
-fn push_insertions<'a>(
-    all: &mut Vec<Naming<'a>>,
-    operations: &[Numbered<'a>],
-) -> Result<(), AllocError>
-    ensures { OnOk result (map named_of all.new.items ≡ map named_of all.old.items ++ references (filter inserts (map operation_of operations.now))) }
-{
-    for i in 0..operations.len() {
-        push_insertion(all, operations[i])?;
-    }
-    Ok(())
-}
-
-// Those that have a row and are no insertions, the last one first.
-fn push_values<'a>(all: &mut Vec<Naming<'a>>, operations: &[Numbered<'a>]) -> Result<(), AllocError>
-    ensures { OnOk result (map named_of all.new.items ≡ map named_of all.old.items ++ references (filter gives_value (reverse (map operation_of operations.now)))) }
-{
-    for i in (0..operations.len()).rev() {
-        push_value(all, operations[i])?;
-    }
-    Ok(())
-}
-
-/// The operations that name elements, in the order in which they are put on the stack.
-pub fn references<'a>(
-    alloc: Global,
-    operations: &[Numbered<'a>],
-) -> Result<Vec<Naming<'a>>, AllocError>
-    ensures { IfOk result (λ all. map named_of all.items ≡ references (hanging (map operation_of operations.now))) }
-{
-    let mut all = Vec::new(alloc);
-    push_insertions(&mut all, operations)?;
-    push_values(&mut all, operations)?;
-    Ok(all)
-}
-
 // The object of the element, or the root.
-fn object_of<'a>(n: &Naming<'a>) -> ObjRef<'a>
+fn object_named<'a>(n: &Naming<'a>) -> ObjRef<'a>
     ensures { object_of result ≡ (named_of n.now).obj }
 {
     if n.hangs {
@@ -154,14 +48,14 @@ fn object_of<'a>(n: &Naming<'a>) -> ObjRef<'a>
     ObjRef::Root
 }
 
-// By the actor of the id, then by object.
+// By the actor of the id, then by object. (Counters tell mostly, and are compared in place: this stays apart.)
 #[inline(never)]
 fn compare_rest(n: &Naming<'_>, obj: ObjRef<'_>, id: IdRef<'_>) -> Ordering
     ensures { result ≡ ordering_then (bytes_cmp (named_of n.now).id.actor (id_of id.entry).actor) (object_cmp (named_of n.now).obj (object_of obj.entry)) }
 {
     match compare_actors(n.id.actor, id.actor) {
         Ordering::Less => Ordering::Less,
-        Ordering::Equal => compare_objects(object_of(n), obj),
+        Ordering::Equal => compare_objects(object_named(n), obj),
         Ordering::Greater => Ordering::Greater,
     }
 }
@@ -178,28 +72,12 @@ fn compare_named(n: &Naming<'_>, obj: ObjRef<'_>, id: IdRef<'_>) -> Ordering
     }
 }
 
-impl<'a> HasCounter for Naming<'a> {
-    ghost use Rattle.am_merge.specs.Naming.{named_cmp, named_of};
-
-    ghost counter_of = { λ n. n.id.counter };
-
-    ghost order = { λ m n. named_cmp (named_of m) (named_of n) };
-
-    fn counter(&self) -> u64 {
-        self.id.counter
-    }
-
-    fn compare(&self, other: &Self) -> Ordering {
-        compare_named(self, object_of(other), other.id)
-    }
-}
-
-/// Sorts a table by what is named. What names the same stays in order.
-pub fn sort_namings(all: &mut Vec<Naming<'_>>) -> Result<(), AllocError>
-    ensures { OnOk result (map named_of all.new.items ≡ sorted_by named_cmp (map named_of all.old.items)) }
+/// By what is named.
+#[inline(always)]
+pub fn compare_namings(a: &Naming<'_>, b: &Naming<'_>) -> Ordering
+    ensures { result ≡ named_cmp (named_of a.now) (named_of b.now) }
 {
-    sort_by_counter(all)?;
-    Ok(())
+    compare_named(a, object_named(b), b.id)
 }
 
 // What names a lesser id, or this one in an object before.
@@ -228,6 +106,8 @@ fn seam_near(
 ) -> Option<(usize, bool)>
     ensures seam { IfSome result (λ r. IsSeam (λ n. is_lt (key_cmp (named_key (named_of n)) (object_of obj.entry, id_of id.entry))) table.now r.0) }
     ensures none { IfSome result (λ r. r.1 ≡ false → (d : ANaming) → r.0 < length table.now → is_le (key_cmp (named_key (named_of (slice_index_or table.now r.0 d))) (object_of obj.entry, id_of id.entry)) ≡ false) }
+    ensures within { IfSome result (λ r. r.1 ≡ true → r.0 < length table.now) }
+    ensures there { IfSome result (λ r. r.1 ≡ true → (d : ANaming) → is_le (key_cmp (named_key (named_of (slice_index_or table.now r.0 d))) (object_of obj.entry, id_of id.entry)) ≡ true) }
 {
     if near > table.len() {
         return None;
@@ -289,7 +169,7 @@ pub fn range_of(table: &[Naming<'_>], near: usize, obj: ObjRef<'_>, id: IdRef<'_
         return range_in(table, obj, id);
     };
     if is_there {
-        let last = end_from(table, first, obj, id);
+        let last = end_from(table, first + 1, obj, id);
         return (first, last);
     }
     (first, first)

@@ -18,7 +18,8 @@ use crate::added::{added_operations, beginning};
 use crate::carry::carried_text;
 use crate::fresh::fresh_text;
 use crate::guide::Guide;
-use crate::naming::{Tables, predecessors, references, sort_namings};
+use crate::mentions::{predecessors, references, table_of};
+use crate::naming::Tables;
 use crate::stops::Walk;
 use crate::walk::walk_rows;
 use am_doccols::RowCursor;
@@ -30,10 +31,10 @@ use std::alloc::{AllocError, Global};
 fn tables_of<'a>(alloc: Global, operations: &[Numbered<'a>]) -> Result<Tables<'a>, AllocError>
     ensures { IfOk result (HasTables (map operation_of operations.now)) }
 {
-    let mut named = predecessors(alloc, operations)?;
-    sort_namings(&mut named)?;
-    let mut hanging = references(alloc, operations)?;
-    sort_namings(&mut hanging)?;
+    let mentions = predecessors(alloc, operations)?;
+    let named = table_of(alloc, mentions)?;
+    let mentions = references(alloc, operations)?;
+    let hanging = table_of(alloc, mentions)?;
     let named_guide = Guide::of(alloc, named.as_slice())?;
     let hanging_guide = Guide::of(alloc, hanging.as_slice())?;
     Ok(Tables {

@@ -1,10 +1,11 @@
 //! The operations that wait when the walk begins, in its order.
-ghost use Rattle.std.specs.Prelude.{◌≡◌, OnOk};
+ghost use Rattle.std.specs.Prelude.{◌≡◌, ◌+◌, ◌*◌, ◌/◌, ◌^◌, ◌≤◌, OnOk, length, min};
 ghost use Rattle.std.specs.Ordering.{nat_cmp, ordering_then};
+ghost use Rattle.am_types.specs.Bytes.{IsBytes};
 ghost use Rattle.am_types.specs.Order.{bytes_cmp, object_cmp, sorted_by};
 ghost use Rattle.am_places.specs.Numbered.{operation_of};
-ghost use Rattle.am_merge.specs.Fronts.{is_root};
-ghost use Rattle.am_merge.specs.Starts.{by_start, start_lane_cmp, turn_cmp};
+ghost use Rattle.am_merge.specs.Fronts.{front_at, is_root};
+ghost use Rattle.am_merge.specs.Starts.{by_start, key_at, start_key, start_lane_cmp, turn_cmp};
 ghost use Rattle.am_merge.specs.Walk.{lane_of, name_in, spot_of};
 
 use crate::front::{compare_behind, front};
@@ -15,34 +16,61 @@ use std::alloc::AllocError;
 use std::cmp::Ordering;
 use std::marker::Model;
 
+// How many bytes of a name its front has.
+const WIDTH: u8 = 16;
+
+// The lane of insertions, the last one.
+const INSERTIONS: u8 = 2;
+
+// A front falls into two halves of 8 bytes.
+const HALF: u128 = 1 << 64;
+
+// What a key leaves out of a front, all but its first 62 bits.
+const LEFT_OUT: u128 = 1 << 66;
+
+// One lane of the root has so many keys.
+const LANE: u64 = 1 << 62;
+
+// Greater counters have one key, so that keys have room in 64 bits. No fine change has such a counter.
+const LAST_COUNTER: u64 = 1 << 61;
+
 /// An operation beside what mostly decides where it starts, so that mostly nothing else is read of it. Contracts see the
 /// operation.
 #[derive(Drop)]
 pub struct Start<'a> {
     operation: Numbered<'a>,
+    /// What mostly decides alone.
+    key: u64,
+    /// The front of the name at which it stands, in two halves: as one number it would stand on multiples of 16 bytes.
+    front_high: u64,
+    front_low: u64,
     in_root: bool,
     /// Names come first, and insertions last.
     lane: u8,
-    /// The front of the name at which it stands, if it stands at one.
-    front: u128,
+    /// How many bytes that name has, at most one more than its front; 0 where it stands at none.
+    bytes: u8,
 }
 
 impl<'a> Model for Start<'a> {
-    ghost use Rattle.std.specs.Prelude.{◌≡◌};
+    ghost use Rattle.std.specs.Prelude.{◌≡◌, ◌/◌, ◌%◌, ◌^◌, length, min};
     ghost use Rattle.am_types.specs.Bytes.{IsBytes};
     ghost use Rattle.am_types.specs.Operations.{Operation};
     ghost use Rattle.am_places.specs.Numbered.{operation_of};
     ghost use Rattle.am_merge.specs.Fronts.{front_at, is_root};
+    ghost use Rattle.am_merge.specs.Starts.{key_at};
     ghost use Rattle.am_merge.specs.Walk.{lane_of, name_in};
 
     ghost Value = { Operation };
 
     ghost view = { λ s. operation_of s.operation };
 
-    ghost invariant = { λ s. (s.front ≡ front_at (operation_of s.operation))
+    ghost invariant = { λ s. (s.key ≡ key_at (operation_of s.operation))
+        × (s.front_high ≡ front_at (operation_of s.operation) / 2 ^ 64)
+        × (s.front_low ≡ front_at (operation_of s.operation) % 2 ^ 64)
         × IsBytes (name_in (operation_of s.operation).op.key)
         × (s.lane ≡ lane_of (operation_of s.operation).op.insert (operation_of s.operation).op.key)
-        × (s.in_root ≡ is_root (operation_of s.operation).op.obj) };
+        × (s.in_root ≡ is_root (operation_of s.operation).op.obj)
+        × (s.bytes ≡ min (length (name_in (operation_of s.operation).op.key)) 17) };
 }
 
 // The name at which it stands.
@@ -56,12 +84,19 @@ fn name_of<'a>(x: &Numbered<'a>) -> &'a str
     }
 }
 
+// How many bytes a name has, at most one more than its front.
+fn bytes_of(name: &[u8]) -> u8
+    ensures { result ≡ min (length name.now) 17 }
+{
+    name.len().min(17) as u8
+}
+
 // Names come first, and insertions last.
 fn lane(x: &Numbered<'_>) -> u8
     ensures { result ≡ lane_of (operation_of x.now).op.insert (operation_of x.now).op.key }
 {
     if x.op.insert {
-        return 2;
+        return INSERTIONS;
     }
     match &x.op.key {
         Key::Name(_) => 0,
@@ -80,15 +115,74 @@ fn is_in_root(x: &Numbered<'_>) -> bool
     }
 }
 
+// In the root: the lane, and how the name begins.
+fn key_in_root(lane: u8, front: u128) -> u64
+    requires { lane ≤ 2 }
+    ensures { result ≡ lane * 2 ^ 62 + front / 2 ^ 66 }
+{
+    lane as u64 * LANE + (front / LEFT_OUT) as u64
+}
+
+// In another object, which has this counter: behind the three lanes of the root.
+fn key_in_object(counter: u64) -> u64
+    ensures { result ≡ 3 * 2 ^ 62 + min counter (2 ^ 61) }
+{
+    3 * LANE + counter.min(LAST_COUNTER)
+}
+
+// What mostly decides alone.
+fn key(obj: &ObjId, lane: u8, front: u128) -> u64
+    requires { lane ≤ 2 }
+    ensures { result ≡ start_key obj.now lane front }
+{
+    match obj {
+        ObjId::Root => key_in_root(lane, front),
+        ObjId::Made(id) => key_in_object(id.counter),
+    }
+}
+
+// By the fronts of names, which are bytes.
+fn compare_fronts(a: &Start<'_>, b: &Start<'_>) -> Ordering
+    ensures order { result ≡ nat_cmp (front_at a.now) (front_at b.now) }
+    ensures bytes { IsBytes (name_in a.now.op.key) × IsBytes (name_in b.now.op.key) }
+{
+    match a.front_high.cmp(&b.front_high) {
+        Ordering::Less => Ordering::Less,
+        Ordering::Equal => a.front_low.cmp(&b.front_low),
+        Ordering::Greater => Ordering::Greater,
+    }
+}
+
+// By name, where both names have one front.
+fn compare_ends(a: &Start<'_>, b: &Start<'_>) -> Ordering
+    requires { front_at a.now ≡ front_at b.now }
+    ensures { result ≡ bytes_cmp (name_in a.now.op.key) (name_in b.now.op.key) }
+{
+    if a.bytes <= WIDTH && b.bytes <= WIDTH {
+        return a.bytes.cmp(&b.bytes);
+    }
+    compare_behind(name_of(&a.operation), name_of(&b.operation))
+}
+
 // By name.
 fn compare_names(a: &Start<'_>, b: &Start<'_>) -> Ordering
     ensures { result ≡ bytes_cmp (name_in a.now.op.key) (name_in b.now.op.key) }
 {
-    match a.front.cmp(&b.front) {
+    match compare_fronts(a, b) {
         Ordering::Less => Ordering::Less,
-        Ordering::Equal => compare_behind(name_of(&a.operation), name_of(&b.operation)),
+        Ordering::Equal => compare_ends(a, b),
         Ordering::Greater => Ordering::Greater,
     }
+}
+
+// By the turns of insertions, which alone are in the last lane.
+fn compare_turns(a: &Start<'_>, b: &Start<'_>) -> Ordering
+    ensures { result ≡ turn_cmp (spot_of a.now) (spot_of b.now) }
+{
+    if a.lane < INSERTIONS && b.lane < INSERTIONS {
+        return Ordering::Equal;
+    }
+    compare_turns_of(&a.operation, &b.operation)
 }
 
 // Within one lane.
@@ -97,7 +191,7 @@ fn compare_in_lane(a: &Start<'_>, b: &Start<'_>) -> Ordering
 {
     match compare_names(a, b) {
         Ordering::Less => Ordering::Less,
-        Ordering::Equal => compare_turns_of(&a.operation, &b.operation),
+        Ordering::Equal => compare_turns(a, b),
         Ordering::Greater => Ordering::Greater,
     }
 }
@@ -130,8 +224,8 @@ fn compare_objects_of(a: &Start<'_>, b: &Start<'_>) -> Ordering
     compare_objects(a.operation.op.obj.lend(), b.operation.op.obj.lend())
 }
 
-// The order of the walk, where what stands at one name is given in order.
-fn compare_starts(a: &Start<'_>, b: &Start<'_>) -> Ordering
+// Part by part.
+fn compare_parts(a: &Start<'_>, b: &Start<'_>) -> Ordering
     ensures { result ≡ by_start a.now b.now }
 {
     match compare_objects_of(a, b) {
@@ -141,6 +235,32 @@ fn compare_starts(a: &Start<'_>, b: &Start<'_>) -> Ordering
     }
 }
 
+// Two with one key: in the root they are in one lane. It is kept apart, so that what the keys decide takes few steps.
+#[inline(never)]
+fn compare_tied(a: &Start<'_>, b: &Start<'_>) -> Ordering
+    requires key { key_at a.now ≡ key_at b.now }
+    requires bytes { IsBytes (name_in a.now.op.key) × IsBytes (name_in b.now.op.key) }
+    ensures { result ≡ by_start a.now b.now }
+{
+    if a.in_root {
+        return compare_in_lane(a, b);
+    }
+    compare_parts(a, b)
+}
+
+// The order of the walk, where what stands at one name is given in order: mostly by the keys alone.
+fn compare_starts(a: &Start<'_>, b: &Start<'_>) -> Ordering
+    ensures { result ≡ by_start a.now b.now }
+{
+    if a.key < b.key {
+        return Ordering::Less;
+    }
+    if b.key < a.key {
+        return Ordering::Greater;
+    }
+    compare_tied(a, b)
+}
+
 impl<'a> Start<'a> {
     /// The operation beside what decides.
     pub fn of(x: Numbered<'a>) -> Start<'a>
@@ -148,11 +268,16 @@ impl<'a> Start<'a> {
     {
         let name = name_of(&x).as_bytes();
         slice_known(name);
+        let lane = lane(&x);
+        let front = front(name);
         Start {
             operation: x,
+            key: key(&x.op.obj, lane, front),
+            front_high: (front / HALF) as u64,
+            front_low: (front % HALF) as u64,
             in_root: is_in_root(&x),
-            lane: lane(&x),
-            front: front(name),
+            lane,
+            bytes: bytes_of(name),
         }
     }
 

@@ -5,6 +5,6 @@ use Rattle.am_merge.proofs.rows.tables_of.Goals as goal
 
 pub returns : goal.returns
 returns c = record {
-  named = c.in_ok-sort_namings.ensures ∙ ap (sorted_by named_cmp) c.in_ok-named.ensures;
-  hanging_is = c.in_ok-sort_namings-2.ensures ∙ ap (sorted_by named_cmp) c.in_ok-hanging.ensures;
+  named = c.in_ok-named.ensures ∙ ap (sorted_by named_cmp) c.in_ok-mentions.ensures;
+  hanging_is = c.in_ok-hanging.ensures ∙ ap (sorted_by named_cmp) c.in_ok-mentions-2.ensures;
 }

@@ -1,18 +1,19 @@
-use Rattle.std.proofs.Common.{◌∙◌, sym}
-use Rattle.am_types.specs.Order.{bytes_cmp}
-use Rattle.am_places.specs.Numbered.{operation_of}
+use Rattle.std.proofs.Common.{refl, sym}
+use Rattle.am_merge.specs.Fronts.{front_at}
 use Rattle.am_merge.specs.Walk.{name_in}
 use Rattle.am_merge.proofs.Fronts.{after, before}
+use Rattle.am_merge.proofs.Keys.{same_number}
 use Rattle.am_merge.proofs.starts.compare_names.Goals as goal
 
 pub returns-in-Less : goal.returns-in-Less
 returns-in-Less c =
-    sym (before (name_in (operation_of c.a.inside.operation).op.key) (name_in (operation_of c.b.inside.operation).op.key) c.a.inside.front c.b.inside.front
-    c.a.invariant.1 c.b.invariant.1 c.a.invariant.0 c.b.invariant.0 (sym c.in-Less.ensures))
-    ∙ (λ i. bytes_cmp (name_in (c.a.view_is i).op.key) (name_in (c.b.view_is i).op.key))
+    sym (before (name_in c.args.a.now.op.key) (name_in c.args.b.now.op.key) (front_at c.args.a.now) (front_at c.args.b.now)
+    c.in-Less.ensures.bytes.0 c.in-Less.ensures.bytes.1 refl refl (sym c.in-Less.ensures.order))
+
+pub compare_ends-requires : goal.compare_ends-requires
+compare_ends-requires c = same_number (front_at c.args.a.now) (front_at c.args.b.now) (sym c.in-Equal.ensures.order)
 
 pub returns-in-Greater : goal.returns-in-Greater
 returns-in-Greater c =
-    sym (after (name_in (operation_of c.a.inside.operation).op.key) (name_in (operation_of c.b.inside.operation).op.key) c.a.inside.front c.b.inside.front
-    c.a.invariant.1 c.b.invariant.1 c.a.invariant.0 c.b.invariant.0 (sym c.in-Greater.ensures))
-    ∙ (λ i. bytes_cmp (name_in (c.a.view_is i).op.key) (name_in (c.b.view_is i).op.key))
+    sym (after (name_in c.args.a.now.op.key) (name_in c.args.b.now.op.key) (front_at c.args.a.now) (front_at c.args.b.now)
+    c.in-Greater.ensures.bytes.0 c.in-Greater.ensures.bytes.1 refl refl (sym c.in-Greater.ensures.order))

@@ -1,8 +1,0 @@
-use Rattle.std.proofs.Common.{◌≡◌, ◌++◌, filter, map, take}
-use Rattle.am_places.specs.Numbered.{operation_of}
-use Rattle.am_merge.specs.Naming.{named_of, references}
-use Rattle.am_merge.specs.Walk.{inserts}
-use Rattle.am_merge.proofs.naming.push_insertions.Given as goal
-
-abbrev pub invariant-loop-i : goal.invariant-loop-i
-invariant-loop-i l = map named_of l.all.items ≡ map named_of l.initial.all.items ++ references (filter inserts (map operation_of (take l.i l.operations)))
