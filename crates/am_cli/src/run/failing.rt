@@ -1,7 +1,8 @@
 //! Runs of which one call of the input, of the folder or of the output fails.
-use super::memory::folder;
+use super::memory::{folder, words_of};
 use super::*;
-use am_outside::{MemorySink, MemorySource};
+use am_outside::{MemoryFolder, MemorySink, MemorySource};
+use std::process::Abort;
 use std::test::Fail;
 
 // No call has this number.
@@ -29,13 +30,16 @@ struct Case {
     status: Status,
 }
 
+// Keeps a file before a delivery.
+const BEGINS: &str = "save kept\napply A1\n";
+
 // Lists two files, of which only the first is there.
 const LISTS: &str = "frames A1\nframes nosuch\n";
 
 const LISTED: &str =
     "ok 1\nchange 32 d99aa04d2627b06462ea181e063a2e07e16255c088d1fe97ecf9c964cfa6ce32\n";
 
-const CASES: [Case; 15] = [
+const CASES: &[Case] = &[
     Case {
         script: KEEPS,
         most: WHOLE,
@@ -101,6 +105,22 @@ const CASES: [Case; 15] = [
         status: Status::Done,
     },
     Case {
+        script: BEGINS,
+        most: WHOLE,
+        failing: [NEVER, 0, NEVER],
+        written: "",
+        kept: None,
+        status: Status::FileFault,
+    },
+    Case {
+        script: BEGINS,
+        most: WHOLE,
+        failing: [NEVER, 1, NEVER],
+        written: "ok 14\n",
+        kept: Some(14),
+        status: Status::FileFault,
+    },
+    Case {
         script: READS,
         most: WHOLE,
         failing: [NEVER, 0, NEVER],
@@ -158,23 +178,37 @@ const CASES: [Case; 15] = [
     },
 ];
 
+// Ends the run of a case, whose input, folder and output these are.
+fn ends(
+    rt: &impl Abort,
+    alloc: Global,
+    case: &Case,
+    input: &mut MemorySource,
+    files: &mut MemoryFolder,
+    out: &mut MemorySink,
+) -> Result<(), Fail> {
+    let words = words_of(alloc, &["run"])?;
+    let status = run(alloc, &words, input, files, out);
+    assert_eq!(rt; status, case.status);
+    assert_eq!(rt; out.bytes(), case.written.as_bytes());
+    let kept = files.file("kept").map(|bytes| bytes.len());
+    assert_eq!(rt; kept, case.kept);
+    Ok(())
+}
+
+fn ends_as_told(rt: &impl Abort, alloc: Global, case: &Case) -> Result<(), Fail> {
+    let [read, file, write] = case.failing;
+    let script = case.script.as_bytes().to_vec(alloc)?;
+    let mut files = folder(alloc, vec![in alloc; file]?)?;
+    let mut input = MemorySource::new(script, case.most.max(1), vec![in alloc; read]?);
+    let mut out = MemorySink::new(alloc, vec![in alloc; write]?);
+    ends(rt, alloc, case, &mut input, &mut files, &mut out)
+}
+
 #[test]
 fn a_failing_call_ends_the_run(rt: HostRuntime) -> Result<(), Fail> {
-    let alloc = rt.alloc();
-    for (number, case) in CASES.iter().enumerate() {
-        let [read, file, write] = case.failing;
-        let script = case.script.as_bytes().to_vec(alloc)?;
-        let mut input = MemorySource::new(script, case.most.max(1), vec![in alloc; read]?);
-        let mut files = folder(alloc, vec![in alloc; file]?)?;
-        let mut out = MemorySink::new(alloc, vec![in alloc; write]?);
-        let mut word = Text::new(alloc);
-        word.push_str("run")?;
-        let words = vec![in alloc; word]?;
-        let status = run(alloc, &words, &mut input, &mut files, &mut out);
-        assert_eq!(rt; status, case.status, "at case {number}");
-        assert_eq!(rt; out.bytes(), case.written.as_bytes(), "at case {number}");
-        let kept = files.file("kept").map(|bytes| bytes.len());
-        assert_eq!(rt; kept, case.kept, "at case {number}");
+    for case in CASES {
+        ends_as_told(&rt, rt.alloc(), case)?;
     }
     Ok(())
 }

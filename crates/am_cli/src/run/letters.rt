@@ -1,6 +1,5 @@
 //! Letters that three people put at one place, delivered in each order.
-use super::memory::{folder, outcome};
-use super::scripts::{JOINED, push_steps};
+use super::scripts::{JOINED, replies_to};
 use super::*;
 use std::test::Fail;
 
@@ -13,33 +12,33 @@ const TWO_JOIN: &str = "ok added 2 waiting 0 rejected 0";
 const THREE_JOIN: &str = "ok added 3 waiting 0 rejected 0";
 
 // Each order, with the replies. The second and the third wait for the first.
-const ORDERS: [[(&str, &str); 3]; 6] = [
-    [
+const ORDERS: &[&[(&str, &str)]] = &[
+    &[
         ("apply T1", JOINED),
         ("apply T2", JOINED),
         ("apply T3", JOINED),
     ],
-    [
+    &[
         ("apply T1", JOINED),
         ("apply T3", JOINED),
         ("apply T2", JOINED),
     ],
-    [
+    &[
         ("apply T2", FIRST_WAITS),
         ("apply T1", TWO_JOIN),
         ("apply T3", JOINED),
     ],
-    [
+    &[
         ("apply T2", FIRST_WAITS),
         ("apply T3", SECOND_WAITS),
         ("apply T1", THREE_JOIN),
     ],
-    [
+    &[
         ("apply T3", FIRST_WAITS),
         ("apply T1", TWO_JOIN),
         ("apply T2", JOINED),
     ],
-    [
+    &[
         ("apply T3", FIRST_WAITS),
         ("apply T2", SECOND_WAITS),
         ("apply T1", THREE_JOIN),
@@ -47,7 +46,7 @@ const ORDERS: [[(&str, &str); 3]; 6] = [
 ];
 
 // What is read then, whatever the order was.
-const READS: [(&str, &str); 7] = [
+const READS: &[(&str, &str)] = &[
     ("show", r#"{"t":"ayxb"}"#),
     ("show %T1%", r#"{"t":"ab"}"#),
     ("show %T2%", r#"{"t":"axb"}"#),
@@ -62,20 +61,8 @@ const READS: [(&str, &str); 7] = [
 
 #[test]
 fn letters_read_alike_in_each_order(rt: HostRuntime) -> Result<(), Fail> {
-    let alloc = rt.alloc();
-    for (number, steps) in ORDERS.iter().enumerate() {
-        let mut script = String::new(alloc);
-        let mut replies = String::new(alloc);
-        push_steps(&mut script, &mut replies, steps)?;
-        push_steps(&mut script, &mut replies, &READS)?;
-        let mut files = folder(alloc, Vec::new(alloc))?;
-        let (status, out) = outcome(alloc, &mut files, script.as_bytes().to_vec(alloc)?)?;
-        assert_eq!(rt;
-            std::str::from_utf8(out.bytes())?,
-            replies.as_str(),
-            "at order {number}"
-        );
-        assert_eq!(rt; status, Status::Done, "at order {number}");
+    for steps in ORDERS {
+        replies_to(&rt, rt.alloc(), *steps, READS, Status::Done)?;
     }
     Ok(())
 }

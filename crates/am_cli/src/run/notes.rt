@@ -1,11 +1,12 @@
 //! Notes by three authors: a text of 2,000 letters, deletions, marks, a counter, a timestamp and a float.
-use super::memory::{joined, outcome};
+use super::memory::{joined, replies_over};
 use super::*;
 use am_outside::MemoryFolder;
+use std::process::Abort;
 use std::test::Fail;
 
 // The first writes notes; the second and the third change them at the same time.
-const FIRST: [(&str, u32); 5] = [
+const FIRST: &[(&str, u32)] = &[
     ("856f4a83f8e8746a019c110010", 1),
     ("11", 16),
     (
@@ -16,7 +17,7 @@ const FIRST: [(&str, u32); 5] = [
     ("000000000000f83fd80f00", 1),
 ];
 
-const SECOND: [(&str, u32); 5] = [
+const SECOND: &[(&str, u32)] = &[
     (
         "856f4a8308bdbf2101a40101f8e8746a59e2c61250a8bf27bb936187fdd4aa3807c5f07ae5db7e63e5f7784c10",
         1,
@@ -30,7 +31,7 @@ const SECOND: [(&str, u32); 5] = [
     ),
 ];
 
-const THIRD: [(&str, u32); 5] = [
+const THIRD: &[(&str, u32)] = &[
     (
         "856f4a8387ca241901a70101f8e8746a59e2c61250a8bf27bb936187fdd4aa3807c5f07ae5db7e63e5f7784c10",
         1,
@@ -58,42 +59,65 @@ fn text_of(alloc: Global, tens: u32, count: u32, title: &str) -> Result<String, 
     Ok(text)
 }
 
-#[test]
-fn notes_are_read_at_their_heads(rt: HostRuntime) -> Result<(), Fail> {
-    let alloc = rt.alloc();
-    // The hash at which the notes are read, and what stands there.
-    let table: [(&str, u32, u32, &str); 3] = [
-        ("", 199, 5, "Notes!"),
-        (
-            " f8e8746a59e2c61250a8bf27bb936187fdd4aa3807c5f07ae5db7e63e5f7784c",
-            200,
-            2,
-            "Notes",
-        ),
-        (
-            " 08bdbf21c97ed5e49af5cf216a0b8a850b1d43b73ef6ec30cd13db0baf764fbd",
-            199,
-            5,
-            "Shopping",
-        ),
-    ];
-    for (hash, tens, count, title) in table {
-        let mut files = MemoryFolder::new(alloc, Vec::new(alloc));
-        files.put_file("first", &joined(alloc, &FIRST)?)?;
-        files.put_file("second", &joined(alloc, &SECOND)?)?;
-        files.put_file("third", &joined(alloc, &THIRD)?)?;
-        let script = format!(in alloc; "apply third\napply first\napply second\nshow{hash}\n")?;
-        let (status, out) = outcome(alloc, &mut files, script.as_bytes().to_vec(alloc)?)?;
+fn put_notes(alloc: Global, files: &mut MemoryFolder) -> Result<(), Fail> {
+    files.put_file("first", &joined(alloc, FIRST)?)?;
+    files.put_file("second", &joined(alloc, SECOND)?)?;
+    files.put_file("third", &joined(alloc, THIRD)?)?;
+    Ok(())
+}
+
+// The hash at which the notes are read, how often ten letters stand there, the count and the title.
+const READS: &[(&str, u32, u32, &str)] = &[
+    ("", 199, 5, "Notes!"),
+    (
+        " f8e8746a59e2c61250a8bf27bb936187fdd4aa3807c5f07ae5db7e63e5f7784c",
+        200,
+        2,
+        "Notes",
+    ),
+    (
+        " 08bdbf21c97ed5e49af5cf216a0b8a850b1d43b73ef6ec30cd13db0baf764fbd",
+        199,
+        5,
+        "Shopping",
+    ),
+];
+
+// Reads the notes there, after their delivery.
+fn reads(
+    rt: &impl Abort,
+    alloc: Global,
+    files: &mut MemoryFolder,
+    hash: &str,
+    text: &str,
+) -> Result<(), Fail> {
+    let script = format!(in alloc;
+        "apply third\napply first\napply second\nshow{hash}\naudit{hash}\n"
+    )?;
+    let told = format!(in alloc;
+        "ok added 0 waiting 1 rejected 0\nok added 2 waiting 0 rejected 0\nok added 1 waiting 0 rejected 0\n{text}{text}"
+    )?;
+    replies_over(
+        rt,
+        alloc,
+        files,
+        script.as_str(),
+        Status::Done,
+        told.as_str(),
+    )
+}
+
+fn reads_all(rt: &impl Abort, alloc: Global, files: &mut MemoryFolder) -> Result<(), Fail> {
+    for &(hash, tens, count, title) in READS {
         let text = text_of(alloc, tens, count, title)?;
-        let replies = format!(in alloc;
-            "ok added 0 waiting 1 rejected 0\nok added 2 waiting 0 rejected 0\nok added 1 waiting 0 rejected 0\n{text}"
-        )?;
-        assert_eq!(rt; status, Status::Done);
-        assert_eq!(rt;
-            std::str::from_utf8(out.bytes())?,
-            replies.as_str(),
-            "at {title}"
-        );
+        reads(rt, alloc, files, hash, text.as_str())?;
     }
     Ok(())
+}
+
+#[test]
+fn notes_are_read_at_their_heads(rt: HostRuntime) -> Result<(), Fail> {
+    let mut files = MemoryFolder::new(rt.alloc(), Vec::new(rt.alloc()));
+    put_notes(rt.alloc(), &mut files)?;
+    reads_all(&rt, rt.alloc(), &mut files)
 }

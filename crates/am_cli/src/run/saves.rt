@@ -1,6 +1,8 @@
-//! The files that are kept, byte for byte, and what stands where the folder fails. The files are those of another program.
-use super::memory::{folder, outcome};
+//! The files that are kept, byte for byte. They are those of another program.
+use super::memory::{folder, replies_over};
 use super::*;
+use am_outside::MemoryFolder;
+use std::process::Abort;
 use std::test::Fail;
 
 // The document of no changes.
@@ -42,7 +44,7 @@ struct Case {
     kept: &'static str,
 }
 
-const CASES: [Case; 9] = [
+const CASES: &[Case] = &[
     Case {
         script: "save kept\n",
         replies: "ok 14\n",
@@ -90,52 +92,28 @@ const CASES: [Case; 9] = [
     },
 ];
 
-#[test]
-fn files_are_kept_byte_for_byte(rt: HostRuntime) -> Result<(), Fail> {
-    let alloc = rt.alloc();
-    for case in &CASES {
-        let script = case.script;
-        let mut files = folder(alloc, Vec::new(alloc))?;
-        let (status, out) = outcome(alloc, &mut files, script.as_bytes().to_vec(alloc)?)?;
-        assert_eq!(rt; status, Status::Done, "at {script}");
-        assert_eq!(rt;
-            std::str::from_utf8(out.bytes())?,
-            case.replies,
-            "at {script}"
-        );
-        let kept = hex::decode(alloc, case.kept)?;
-        assert_eq!(rt; files.file("kept"), Some(kept.as_slice()), "at {script}");
-    }
+fn keeps(
+    rt: &impl Abort,
+    alloc: Global,
+    files: &mut MemoryFolder,
+    case: &Case,
+) -> Result<(), Fail> {
+    let script = case.script;
+    replies_over(rt, alloc, files, script, Status::Done, case.replies)?;
+    let kept = hex::decode(alloc, case.kept)?;
+    assert_eq!(rt; files.file("kept"), Some(kept.as_slice()), "at {script}");
     Ok(())
 }
 
+fn keeps_anew(rt: &impl Abort, alloc: Global, case: &Case) -> Result<(), Fail> {
+    let mut files = folder(alloc, Vec::new(alloc))?;
+    keeps(rt, alloc, &mut files, case)
+}
+
 #[test]
-fn a_failing_folder_ends_the_run(rt: HostRuntime) -> Result<(), Fail> {
-    let alloc = rt.alloc();
-    // The script, the call of the folder that fails, what is written, and the file that is kept, where there is one.
-    let table: [(&str, u64, &str, Option<&str>); 4] = [
-        ("apply A1\nsave kept\nshow\n", 0, "", None),
-        (
-            "apply A1\nsave kept\nshow\n",
-            1,
-            "ok added 1 waiting 0 rejected 0\n",
-            None,
-        ),
-        ("save kept\napply A1\n", 0, "", None),
-        ("save kept\napply A1\n", 1, "ok 14\n", Some(EMPTY)),
-    ];
-    for (script, failing, replies, kept) in table {
-        let mut files = folder(alloc, vec![in alloc; failing]?)?;
-        let (status, out) = outcome(alloc, &mut files, script.as_bytes().to_vec(alloc)?)?;
-        assert_eq!(rt; status, Status::FileFault, "at {script}");
-        assert_eq!(rt; std::str::from_utf8(out.bytes())?, replies, "at {script}");
-        match kept {
-            Some(digits) => {
-                let bytes = hex::decode(alloc, digits)?;
-                assert_eq!(rt; files.file("kept"), Some(bytes.as_slice()), "at {script}");
-            }
-            None => assert_eq!(rt; files.file("kept"), None, "at {script}"),
-        }
+fn files_are_kept_byte_for_byte(rt: HostRuntime) -> Result<(), Fail> {
+    for case in CASES {
+        keeps_anew(&rt, rt.alloc(), case)?;
     }
     Ok(())
 }

@@ -1,12 +1,13 @@
 //! Runs over an input, a folder and an output that never fail.
 use super::chunks::FILES;
-use super::memory::{folder, outcome};
+use super::memory::{folder, replies_over, words_of};
 use super::*;
-use am_outside::{SureFolder, SureSink, SureSource};
+use am_outside::{MemoryFolder, SureFolder, SureSink, SureSource};
+use std::process::Abort;
 use std::test::Fail;
 
 // Scripts, one after another over one folder, and their replies.
-const RUNS: [(&str, &str); 2] = [
+const RUNS: &[(&str, &str)] = &[
     (
         "apply A1\nsave kept\n",
         "ok added 1 waiting 0 rejected 0\nok 105\n",
@@ -17,30 +18,55 @@ const RUNS: [(&str, &str); 2] = [
     ),
 ];
 
-#[test]
-fn replies_and_files_are_those_of_other_versions(rt: HostRuntime) -> Result<(), Fail> {
-    let alloc = rt.alloc();
-    let mut other = folder(alloc, Vec::new(alloc))?;
-    let mut files = SureFolder::new(alloc);
+fn put_all(alloc: Global, files: &mut SureFolder) -> Result<(), Fail> {
     for (name, digits) in FILES {
-        files.put_file(name, &hex::decode(alloc, digits)?)?;
+        files.put_file(*name, &hex::decode(alloc, *digits)?)?;
     }
-    for (script, replies) in RUNS {
-        let mut input = SureSource::new(script.as_bytes().to_vec(alloc)?);
-        let mut out = SureSink::new(alloc);
-        let mut word = Text::new(alloc);
-        word.push_str("run")?;
-        let words = vec![in alloc; word]?;
-        let status = run(alloc, &words, &mut input, &mut files, &mut out);
-        assert_eq!(rt; status, Status::Done);
-        assert_eq!(rt; out.bytes(), replies.as_bytes());
-        let (status, out) = outcome(alloc, &mut other, script.as_bytes().to_vec(alloc)?)?;
-        assert_eq!(rt; status, Status::Done);
-        assert_eq!(rt; out.bytes(), replies.as_bytes());
+    Ok(())
+}
+
+fn replies_surely(
+    rt: &impl Abort,
+    alloc: Global,
+    files: &mut SureFolder,
+    script: &str,
+    replies: &str,
+) -> Result<(), Fail> {
+    let words = words_of(alloc, &["run"])?;
+    let mut input = SureSource::new(script.as_bytes().to_vec(alloc)?);
+    let mut out = SureSink::new(alloc);
+    let status = run(alloc, &words, &mut input, files, &mut out);
+    assert_eq!(rt; status, Status::Done);
+    assert_eq!(rt; out.bytes(), replies.as_bytes());
+    Ok(())
+}
+
+fn both_reply(
+    rt: &impl Abort,
+    alloc: Global,
+    files: &mut SureFolder,
+    other: &mut MemoryFolder,
+) -> Result<(), Fail> {
+    for &(script, replies) in RUNS {
+        replies_surely(rt, alloc, files, script, replies)?;
+        replies_over(rt, alloc, other, script, Status::Done, replies)?;
     }
-    for name in ["kept", "again"] {
+    Ok(())
+}
+
+fn are_alike(rt: &impl Abort, files: &SureFolder, other: &MemoryFolder) {
+    for &name in &["kept", "again"] {
         assert_eq!(rt; files.file(name), other.file(name), "at {name}");
     }
     assert_eq!(rt; files.file("again"), files.file("A1"));
+}
+
+#[test]
+fn replies_and_files_are_those_of_other_versions(rt: HostRuntime) -> Result<(), Fail> {
+    let mut other = folder(rt.alloc(), Vec::new(rt.alloc()))?;
+    let mut files = SureFolder::new(rt.alloc());
+    put_all(rt.alloc(), &mut files)?;
+    both_reply(&rt, rt.alloc(), &mut files, &mut other)?;
+    are_alike(&rt, &files, &other);
     Ok(())
 }
