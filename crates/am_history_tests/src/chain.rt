@@ -1,4 +1,4 @@
-//! Tests of am_chain: one walk whatever the order of the insertions.
+//! Tests of am_chain: insertions of which a later one comes first, and one behind an element of greater id.
 ghost use Rattle.std.specs.Prelude.{◌≡◌, ◌∷◌, [], IfOk};
 
 use am_chain::{Chain, Insertion};
@@ -30,51 +30,15 @@ fn is_expected(alloc: Global, chain: &Chain) -> Result<bool, AllocError> {
 }
 
 #[test]
-fn three_b_c(rt: HostRuntime) -> Result<(), AllocError> {
-    let alloc = rt.alloc();
-    let mut chain = Chain::new(alloc);
-    let first = chain.insert(None, id(alloc, 2, 0xaa)?)?;
-    chain.insert(Some(first), id(alloc, 3, 0xaa)?)?;
-    chain.insert(Some(first), id(alloc, 4, 0xbb)?)?;
-    let last = chain.insert(Some(first), id(alloc, 4, 0xcc)?)?;
-    assert!(rt; is_expected(alloc, &chain)?);
-    assert_eq!(rt; chain.place(last), 1);
-    Ok(())
-}
-
-#[test]
-fn three_c_b(rt: HostRuntime) -> Result<(), AllocError> {
-    let alloc = rt.alloc();
-    let mut chain = Chain::new(alloc);
-    let first = chain.insert(None, id(alloc, 2, 0xaa)?)?;
-    chain.insert(Some(first), id(alloc, 3, 0xaa)?)?;
-    chain.insert(Some(first), id(alloc, 4, 0xcc)?)?;
-    chain.insert(Some(first), id(alloc, 4, 0xbb)?)?;
-    assert!(rt; is_expected(alloc, &chain)?);
-    Ok(())
-}
-
-#[test]
-fn b_three_c(rt: HostRuntime) -> Result<(), AllocError> {
-    let alloc = rt.alloc();
-    let mut chain = Chain::new(alloc);
-    let first = chain.insert(None, id(alloc, 2, 0xaa)?)?;
-    chain.insert(Some(first), id(alloc, 4, 0xbb)?)?;
-    chain.insert(Some(first), id(alloc, 3, 0xaa)?)?;
-    chain.insert(Some(first), id(alloc, 4, 0xcc)?)?;
-    assert!(rt; is_expected(alloc, &chain)?);
-    Ok(())
-}
-
-#[test]
 fn greater_ones_are_passed(rt: HostRuntime) -> Result<(), AllocError> {
     let alloc = rt.alloc();
     let mut chain = Chain::new(alloc);
     let first = chain.insert(None, id(alloc, 2, 0xaa)?)?;
     chain.put_behind(Some(first), id(alloc, 5, 0xdd)?)?;
-    chain.insert(Some(first), id(alloc, 4, 0xcc)?)?;
+    let last = chain.insert(Some(first), id(alloc, 4, 0xcc)?)?;
     let found = walked(alloc, &chain)?;
     assert_eq!(rt; found.as_slice(), &[(2, 0xaa), (5, 0xdd), (4, 0xcc)][..]);
+    assert_eq!(rt; chain.place(last), 2);
     Ok(())
 }
 

@@ -1,5 +1,5 @@
-//! Tests of am_graph: a small graph with a fork and a merge, a long one of two branches, and a chain of which one change
-//! merges many. A function that has a graph of its own only lends it, since each of its ways out is proved to drop it well.
+//! Tests of am_graph: a small graph with a fork and a merge, and a chain of which one change merges many, which is copied too.
+//! A function that has a graph of its own only lends it, since each of its ways out is proved to drop it well.
 ghost use Rattle.std.specs.Prelude.{◌↔◌, IsTrue};
 ghost use Rattle.am_types.specs.Order.{hash_cmp, Ascends};
 
@@ -68,11 +68,6 @@ const COVERED: &[(u64, &[u8], (bool, u64, u64))] = &[
     (4, BB, (true, 1, 5)),
     (1, CC, (false, 0, 0)),
 ];
-
-/// A change on both branches of the long graph.
-const LAST: Sample<'static> = (200, AA, 101, 101, 1, &[198, 199]);
-
-const LAST_HEAD: &[Hash] = &[Hash([200; 32])];
 
 /// A change on every fourth change of a chain of 40.
 const MERGING: Sample<'static> = (100, BB, 1, 38, 1, &[4, 8, 12, 16, 20, 24, 28, 32, 36]);
@@ -250,48 +245,6 @@ fn covered(alloc: Global, graph: &Graph, id: IdRef<'_>) -> Result<[(bool, u64, u
     Ok([clock, reached])
 }
 
-/// Adds a change of the long graph, which has two branches whose actors take turns.
-fn add_next(graph: &mut Graph, alloc: Global, byte: u8) -> Result<(), Fail> {
-    let actor = if byte % 2 == 0 { AA } else { BB };
-    let turn = u16::from(byte / 2) + 1;
-    let below = [byte.saturating_sub(2)];
-    let deps = if byte < 2 { &[] } else { &below[..] };
-    add(graph, alloc, (byte, actor, turn, turn, 1, deps))??;
-    Ok(())
-}
-
-fn add_long(graph: &mut Graph, alloc: Global) -> Result<(), Fail> {
-    for byte in 0..200 {
-        add_next(graph, alloc, byte)?;
-    }
-    Ok(())
-}
-
-#[test]
-fn copies_whole(rt: HostRuntime) -> Result<(), Fail> {
-    let mut graph = Graph::new(rt.alloc());
-    add_long(&mut graph, rt.alloc())?;
-    copies(&rt, rt.alloc(), &graph)
-}
-
-fn copies(rt: &impl Abort, alloc: Global, graph: &Graph) -> Result<(), Fail> {
-    let merged = copied(alloc, graph)?;
-    assert_eq!(rt; (merged, graph.holds(&hash(200))), ((101, 100), false));
-    Ok(())
-}
-
-fn copied(alloc: Global, graph: &Graph) -> Result<(u64, u64), Fail> {
-    let mut twin = graph.copy(alloc)?;
-    merged(alloc, &mut twin)
-}
-
-/// How far both actors go where a change is added on both branches.
-fn merged(alloc: Global, graph: &mut Graph) -> Result<(u64, u64), Fail> {
-    add(graph, alloc, LAST)??;
-    let clock = graph.clock(alloc, LAST_HEAD)?;
-    Ok((clock.last_seq(AA), clock.last_seq(BB)))
-}
-
 /// Adds a change of the chain.
 fn add_link(graph: &mut Graph, alloc: Global, byte: u8) -> Result<(), Fail> {
     let turn = u16::from(byte) + 1;
@@ -324,7 +277,13 @@ fn add_chains(graph: &mut Graph, alloc: Global) -> Result<(), Fail> {
 fn merges_many(rt: HostRuntime) -> Result<(), Fail> {
     let mut graph = Graph::new(rt.alloc());
     add_chains(&mut graph, rt.alloc())?;
-    tells_last_seqs(&rt, rt.alloc(), &graph)
+    tells_last_seqs(&rt, rt.alloc(), &graph)?;
+    tells_them_by_copy(&rt, rt.alloc(), &graph)
+}
+
+fn tells_them_by_copy(rt: &impl Abort, alloc: Global, graph: &Graph) -> Result<(), Fail> {
+    let twin = graph.copy(alloc)?;
+    tells_last_seqs(rt, alloc, &twin)
 }
 
 fn tells_last_seqs(rt: &impl Abort, alloc: Global, graph: &Graph) -> Result<(), Fail> {

@@ -1,5 +1,5 @@
 //! Tests of am_rows: the rows of small histories, which another program made of them too.
-use crate::samples::{ACTIONS, COUNTERS, History, Sample, TEXTS, VALUES, begins_mark};
+use crate::samples::{ACTIONS, COUNTERS, Sample, TEXTS, VALUES, begins_mark};
 use crate::valid_set::valid_set;
 use am_rows::rows_of;
 use am_types::{Key, ObjId, OpId, Row};
@@ -98,17 +98,17 @@ fn are_rows(rows: &[Row], expected: &[Expected]) -> bool {
 
 fn has_rows(
     alloc: Global,
-    history: &History,
+    samples: &[Sample],
     numbers: &[usize],
     expected: &[Expected],
 ) -> Result<bool, Fail> {
-    let changes = valid_set(alloc, history, numbers)?;
+    let changes = valid_set(alloc, samples, numbers)?;
     let rows = rows_of(alloc, changes.as_slice())?;
     Ok(are_rows(rows.as_slice(), expected))
 }
 
 // The samples of each history, the numbers of its changes, and its rows.
-const HISTORIES: [(&[Sample], &[usize], &[Expected]); 5] = [
+const HISTORIES: &[(&[Sample], &[usize], &[Expected])] = &[
     // a value, and its deletion
     (
         VALUES,
@@ -179,8 +179,8 @@ const HISTORIES: [(&[Sample], &[usize], &[Expected]); 5] = [
 
 #[test]
 fn rows_of_small_histories(rt: HostRuntime) -> Result<(), Fail> {
-    for (samples, numbers, expected) in &HISTORIES {
-        assert!(rt; has_rows(rt.alloc(), &History::Of(*samples), *numbers, *expected)?);
+    for (samples, numbers, expected) in HISTORIES {
+        assert!(rt; has_rows(rt.alloc(), *samples, *numbers, *expected)?);
     }
     Ok(())
 }

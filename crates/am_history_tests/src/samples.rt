@@ -10,21 +10,7 @@ pub type Spec = (u64, &'static str, u64, u8, u8, &'static [u8], u64);
 /// A change: who made it, where its counters start, and its operations.
 pub type Sample = (&'static [u8], u64, &'static [Spec]);
 
-/// Changes that have numbers, those on which others depend first.
-#[derive(Clone, Copy)]
-pub enum History {
-    /// Samples. What is named in them was made by the actor aa.
-    Of(&'static [Sample]),
-    /// A note with a text of 2,000 letters, and its edits.
-    Note,
-}
-
 const AA: &[u8] = &[0xaa];
-
-const AUTHOR: &[u8] = &[0x11; 16];
-
-/// The letters of the notes, over and over.
-pub const LETTERS: [&[u8]; 10] = [b"a", b"b", b"c", b"d", b"e", b"f", b"g", b"h", b"i", b"j"];
 
 /// A text, and a letter that each of two others put into it.
 pub const TEXTS: &[Sample] = &[
@@ -91,50 +77,6 @@ pub const ACTIONS: &[Sample] = &[(
         (3, "", 12, 7, 0, b"", 0),
     ],
 )];
-
-// A note up to its text, whose letters come next.
-const NOTE: [Spec; 7] = [
-    (0, "title", 0, 1, 6, b"Notes", 0),
-    (0, "items", 0, 2, 0, b"", 0),
-    (2, "", 0, 0, 0, b"", 0),
-    (3, "name", 0, 1, 6, b"milk", 0),
-    (3, "count", 0, 1, 8, &[2], 0),
-    (3, "at", 0, 1, 9, &[0x80, 0xd0, 0x95, 0xff, 0xbc, 0x31], 0),
-    (0, "body", 0, 4, 0, b"", 0),
-];
-
-const RATIO: Spec = (0, "ratio", 0, 1, 5, &[0, 0, 0, 0, 0, 0, 0xf8, 0x3f], 0);
-
-// What two others changed in the note: the first also deletes ten letters, the second marks some.
-const EDITS: [Sample; 2] = [
-    (
-        &[0x22; 16],
-        2009,
-        &[
-            (0, "title", 0, 1, 6, b"Shopping", 1),
-            (3, "count", 0, 5, 4, &[3], 5),
-            (7, "", 8, 3, 0, b"", 8),
-            (7, "", 9, 3, 0, b"", 9),
-            (7, "", 10, 3, 0, b"", 10),
-            (7, "", 11, 3, 0, b"", 11),
-            (7, "", 12, 3, 0, b"", 12),
-            (7, "", 13, 3, 0, b"", 13),
-            (7, "", 14, 3, 0, b"", 14),
-            (7, "", 15, 3, 0, b"", 15),
-            (7, "", 16, 3, 0, b"", 16),
-            (7, "", 17, 3, 0, b"", 17),
-        ],
-    ),
-    (
-        &[0x33; 16],
-        2009,
-        &[
-            (0, "title", 0, 1, 6, b"Notes!", 1),
-            (7, "", 17, 7, 2, b"", 0),
-            (7, "", 27, 7, 0, b"", 0),
-        ],
-    ),
-];
 
 fn id(alloc: Global, by: &[u8], counter: u64) -> Result<OpId, AllocError> {
     match ActorId::of(alloc, by) {
@@ -253,48 +195,15 @@ fn change_of(alloc: Global, first: &[u8], sample: &Sample) -> Result<Change, All
     change(alloc, by, seq, start, ops)
 }
 
-fn push_letters(alloc: Global, ops: &mut List<Op>) -> Result<(), AllocError> {
-    for i in 0..2000u64 {
-        let behind = if i == 0 { 0 } else { 7 + i };
-        let spec: Spec = (7, "", behind, 1, 6, LETTERS[(i % 10) as usize], 0);
-        ops.push(op(alloc, AUTHOR, &spec)?)?;
-    }
-    Ok(())
-}
-
-fn note(alloc: Global) -> Result<Change, AllocError> {
-    let mut ops = List::new(alloc);
-    push_ops(alloc, AUTHOR, &mut ops, &NOTE)?;
-    push_letters(alloc, &mut ops)?;
-    push_ops(alloc, AUTHOR, &mut ops, &[RATIO])?;
-    change(alloc, AUTHOR, 1, 1, ops)
-}
-
-fn listed(
+/// The change that has this number among the samples, without its dependencies. What is named in them was made by the
+/// actor aa, and those on which others depend come first.
+pub fn change_at(
     alloc: Global,
-    first: &[u8],
     samples: &[Sample],
     number: usize,
 ) -> Result<Option<Change>, AllocError> {
     match samples.get(number) {
-        Some(sample) => Ok(Some(change_of(alloc, first, sample)?)),
+        Some(sample) => Ok(Some(change_of(alloc, AA, sample)?)),
         None => Ok(None),
-    }
-}
-
-/// The change of a history that has this number, without its dependencies.
-pub fn change_at(
-    alloc: Global,
-    history: &History,
-    number: usize,
-) -> Result<Option<Change>, AllocError> {
-    match history {
-        History::Of(samples) => listed(alloc, AA, *samples, number),
-        History::Note => {
-            if number == 0 {
-                return Ok(Some(note(alloc)?));
-            }
-            listed(alloc, AUTHOR, &EDITS, number - 1)
-        }
     }
 }

@@ -10,7 +10,7 @@ ghost use Rattle.am_fits.specs.Indexes.{AreOf};
 ghost use Rattle.am_graph.specs.Graphs.{ForSet};
 ghost use Rattle.am_rebuild.specs.Gathered.{IsOfSet, MayGrow};
 
-use crate::samples::{History, change_at};
+use crate::samples::{Sample, change_at};
 use am_change::{hash_of, is_fine};
 use am_delivery::joined_is_valid;
 use am_fits::{OpIndex, fits};
@@ -157,14 +157,14 @@ fn join(alloc: Global, set: Joined, mut change: Change) -> Result<Joined, Fail> 
 // The changes that have these numbers, taken in by ascending number, and these numbers in this order.
 fn join_all(
     alloc: Global,
-    history: &History,
+    samples: &[Sample],
     numbers: &[usize],
 ) -> Result<(Joined, Vec<usize>), Fail> {
     let mut set = none(alloc);
     let mut taken = Vec::new(alloc);
     for number in 0..MOST {
         if numbers.contains(&number) {
-            let Some(change) = change_at(alloc, history, number)? else {
+            let Some(change) = change_at(alloc, samples, number)? else {
                 return Err(Fail::from("no such change"));
             };
             set = join(alloc, set, change)?;
@@ -229,11 +229,11 @@ fn without_hashes(alloc: Global, entries: Vec<(Hash, Change)>) -> Result<Vec<Cha
     Ok(changes)
 }
 
-/// The changes of the history that have these numbers, in this order. Fails where they are no valid set.
-pub fn valid_set(alloc: Global, history: &History, numbers: &[usize]) -> Result<Vec<Change>, Fail>
+/// The changes that have these numbers among the samples, in this order. Fails where they are no valid set.
+pub fn valid_set(alloc: Global, samples: &[Sample], numbers: &[usize]) -> Result<Vec<Change>, Fail>
     ensures { IfOk result (λ changes. IsValidSet (vec_items changes)) }
 {
-    let (set, mut taken) = join_all(alloc, history, numbers)?;
+    let (set, mut taken) = join_all(alloc, samples, numbers)?;
     let mut entries = entries_of(set);
     put_in_order(&mut entries, &mut taken, numbers)?;
     Ok(without_hashes(alloc, entries)?)

@@ -10,7 +10,7 @@ use std::alloc::Global;
 use std::process::Abort;
 use std::test::Fail;
 
-const DOCUMENT: [u8; 240] = [
+const DOCUMENT: &[u8] = &[
     0x03, 0x01, 0xaa, 0x01, 0xbb, 0x01, 0xcc, 0x02, 0x03, 0x03, 0x03, 0x03, 0x03, 0x03, 0x03, 0x03,
     0x03, 0x03, 0x03, 0x03, 0x03, 0x03, 0x03, 0x03, 0x03, 0x03, 0x03, 0x03, 0x03, 0x03, 0x03, 0x03,
     0x03, 0x03, 0x03, 0x03, 0x03, 0x03, 0x03, 0x03, 0x04, 0x04, 0x04, 0x04, 0x04, 0x04, 0x04, 0x04,
@@ -33,7 +33,7 @@ const DOCUMENT: [u8; 240] = [
 type Sample = (u8, u8, u16, u16, u16, u8);
 
 // The changes of which the document tells.
-const CHANGES: [Sample; 4] = [
+const CHANGES: &[Sample] = &[
     (1, 0xaa, 1, 1, 4, 0),
     (2, 0xbb, 1, 5, 2, 1),
     (3, 0xcc, 1, 5, 2, 1),
@@ -41,7 +41,7 @@ const CHANGES: [Sample; 4] = [
 ];
 
 // The first actor typed a word, and the second one two signs behind it.
-const TYPED: [u8; 151] = [
+const TYPED: &[u8] = &[
     0x02, 0x01, 0xaa, 0x01, 0xbb, 0x01, 0x02, 0x02, 0x02, 0x02, 0x02, 0x02, 0x02, 0x02, 0x02, 0x02,
     0x02, 0x02, 0x02, 0x02, 0x02, 0x02, 0x02, 0x02, 0x02, 0x02, 0x02, 0x02, 0x02, 0x02, 0x02, 0x02,
     0x02, 0x02, 0x02, 0x02, 0x02, 0x02, 0x07, 0x01, 0x03, 0x03, 0x03, 0x13, 0x03, 0x23, 0x02, 0x40,
@@ -55,13 +55,13 @@ const TYPED: [u8; 151] = [
 ];
 
 // Its changes.
-const TYPED_CHANGES: [Sample; 2] = [(1, 0xaa, 1, 1, 8, 0), (2, 0xbb, 1, 9, 2, 1)];
+const TYPED_CHANGES: &[Sample] = &[(1, 0xaa, 1, 1, 8, 0), (2, 0xbb, 1, 9, 2, 1)];
 
 // The counter and the actor of the id, and the total.
 type Expected = (u64, u8, i128);
 
 // The bytes of the hashes of some heads, and the entries there.
-const VIEWS: [(&[u8], &[Expected]); 6] = [
+const VIEWS: &[(&[u8], &[Expected])] = &[
     (
         &[1],
         &[(1, 0xaa, 10), (3, 0xaa, 0), (2, 0xaa, 0), (4, 0xaa, 0)],
@@ -85,8 +85,11 @@ const VIEWS: [(&[u8], &[Expected]); 6] = [
         ],
     ),
     (&[4], &[(3, 0xaa, 0), (6, 0xbb, 0)]),
-    (&[3, 4], &[(3, 0xaa, 0), (6, 0xbb, 0), (6, 0xcc, 0)]),
+    (&[3, 4], LAST),
 ];
+
+// The entries at all heads.
+const LAST: &[Expected] = &[(3, 0xaa, 0), (6, 0xbb, 0), (6, 0xcc, 0)];
 
 fn is_entry(entry: &EntryRef<'_>, expected: &Expected) -> bool {
     let (counter, actor, total) = *expected;
@@ -161,7 +164,7 @@ fn says(alloc: Global, shown: Shown<'_>, expected: &[u8]) -> Result<bool, Fail> 
 
 // Whether the typed document says just this where every id is covered.
 fn says_whole(alloc: Global, expected: &[u8]) -> Result<bool, Fail> {
-    let Ok(doc) = DocRef::read(&TYPED) else {
+    let Ok(doc) = DocRef::read(TYPED) else {
         return Ok(false);
     };
     says(alloc, Shown::whole(doc), expected)
@@ -169,7 +172,7 @@ fn says_whole(alloc: Global, expected: &[u8]) -> Result<bool, Fail> {
 
 // Whether it says just this at the clock.
 fn says_part(alloc: Global, clock: &Clock, expected: &[u8]) -> Result<bool, Fail> {
-    let Ok(doc) = DocRef::read(&TYPED) else {
+    let Ok(doc) = DocRef::read(TYPED) else {
         return Ok(false);
     };
     says(alloc, Shown::over(doc, clock), expected)
@@ -239,22 +242,21 @@ fn clock_at(alloc: Global, graph: &Graph, bytes: &[u8]) -> Result<Clock, Fail> {
 #[test]
 fn reads_at_heads(rt: HostRuntime) -> Result<(), Fail> {
     let mut graph = Graph::new(rt.alloc());
-    add_all(&mut graph, rt.alloc(), &CHANGES)?;
+    add_all(&mut graph, rt.alloc(), CHANGES)?;
     reads(&rt, rt.alloc(), &graph)
 }
 
 fn reads(rt: &impl Abort, alloc: Global, graph: &Graph) -> Result<(), Fail> {
-    for i in 0..VIEWS.len() {
-        let (heads, expected) = VIEWS[i];
+    for &(heads, expected) in VIEWS {
         let clock = clock_at(alloc, graph, heads)?;
-        assert!(rt; shows(alloc, &DOCUMENT, &clock, expected)?);
+        assert!(rt; shows(alloc, DOCUMENT, &clock, expected)?);
     }
     Ok(())
 }
 
 #[test]
 fn reads_all(rt: HostRuntime) -> Result<(), Fail> {
-    assert!(rt; shows_whole(rt.alloc(), &DOCUMENT, VIEWS[VIEWS.len() - 1].1)?);
+    assert!(rt; shows_whole(rt.alloc(), DOCUMENT, LAST)?);
     Ok(())
 }
 
@@ -267,7 +269,7 @@ fn hands_out_letters(rt: HostRuntime) -> Result<(), Fail> {
 #[test]
 fn hands_out_letters_at_heads(rt: HostRuntime) -> Result<(), Fail> {
     let mut graph = Graph::new(rt.alloc());
-    add_all(&mut graph, rt.alloc(), &TYPED_CHANGES)?;
+    add_all(&mut graph, rt.alloc(), TYPED_CHANGES)?;
     let clock = clock_at(rt.alloc(), &graph, &[1])?;
     assert!(rt; says_part(rt.alloc(), &clock, b"letters")?);
     Ok(())
