@@ -229,10 +229,12 @@ fn fault_of(alloc: Global, bytes: &[u8]) -> Option<ChangeFault> {
     parse_change(alloc, bytes).err()
 }
 
-fn are_refused(rt: &impl Abort, alloc: Global, cases: &[(&[u8], Option<ChangeFault>)]) {
-    for &(bytes, fault) in cases {
-        assert_eq!(rt; fault_of(alloc, bytes), fault, "{bytes:?}");
-    }
+fn is_bad(alloc: Global, bytes: &[u8]) -> bool {
+    fault_of(alloc, bytes) == Some(ChangeFault::BadChange)
+}
+
+fn is_compressed(alloc: Global, bytes: &[u8]) -> bool {
+    fault_of(alloc, bytes) == Some(ChangeFault::CompressedColumn)
 }
 
 // The bytes with another one at a place.
@@ -244,55 +246,52 @@ fn with<const N: usize>(bytes: [u8; N], place: usize, byte: u8) -> [u8; N] {
     changed
 }
 
+const CHANGES: &[&[u8]] = &[
+    &A1, &A2, &A3, &E1, &E2, &E3, &T1, &T2, &K1, &K2, &K4, &K5, &K6,
+];
+
 #[test]
 fn reads_changes_and_writes_them_back(rt: HostRuntime) -> Result<(), Fail> {
-    let other_value = with(A1, 29, 0x02);
-    let other_actor = with(other_value, 2, 0xbb);
-    let other_insertion = with(with(T2, 34, 0xcc), 75, 0x79);
-    let other_amount = with(with(K2, 34, 0xcc), 67, 0x7d);
-    let changes: &[&[u8]] = &[
-        &A1,
-        &other_value,
-        &other_actor,
-        &A2,
-        &A3,
-        &E1,
-        &E2,
-        &E3,
-        &T1,
-        &T2,
-        &other_insertion,
-        &K1,
-        &K2,
-        &other_amount,
-        &K4,
-        &K5,
-        &K6,
-    ];
-    Ok(are_read_back(&rt, rt.alloc(), changes)?)
+    Ok(are_read_back(&rt, rt.alloc(), CHANGES)?)
 }
 
 #[test]
+fn reads_those_of_others_and_writes_them_back(rt: HostRuntime) -> Result<(), Fail> {
+    let value = with(A1, 29, 0x02);
+    let actor = with(value, 2, 0xbb);
+    let insertion = with(with(T2, 34, 0xcc), 75, 0x79);
+    let amount = with(with(K2, 34, 0xcc), 67, 0x7d);
+    let changes: &[&[u8]] = &[&value, &actor, &insertion, &amount];
+    Ok(are_read_back(&rt, rt.alloc(), changes)?)
+}
+
+// Contents that are no change.
+const BAD: &[&[u8]] = &[
+    &OTHER_ACTOR,
+    &EMPTY_COLUMN,
+    &SPLIT,
+    &FALSES,
+    &TWICE,
+    &PREDS,
+    &START,
+    &[],
+];
+
+#[test]
 fn refuses_what_is_no_change(rt: HostRuntime) {
-    let bad = Some(ChangeFault::BadChange);
+    for &bytes in BAD {
+        assert!(rt; is_bad(rt.alloc(), bytes), "{bytes:?}");
+    }
     let repeat_of_one = with(A1, 21, 0x01);
-    let compressed = Some(ChangeFault::CompressedColumn);
+    assert!(rt; is_bad(rt.alloc(), &repeat_of_one));
+}
+
+#[test]
+fn tells_a_compressed_column(rt: HostRuntime) {
     let deflated = with(A1, 9, 0x1d);
-    let cases: &[(&[u8], Option<ChangeFault>)] = &[
-        (&repeat_of_one, bad),
-        (&OTHER_ACTOR, bad),
-        (&EMPTY_COLUMN, bad),
-        (&SPLIT, bad),
-        (&FALSES, bad),
-        (&TWICE, bad),
-        (&PREDS, bad),
-        (&START, bad),
-        (&[], bad),
-        (&deflated, compressed),
-        (&deflated[..21], compressed),
-        (&deflated[..20], bad),
-    ];
-    are_refused(&rt, rt.alloc(), cases);
+    assert!(rt; is_compressed(rt.alloc(), &deflated));
+    assert!(rt; is_compressed(rt.alloc(), &deflated[..21]));
+    assert!(rt; is_bad(rt.alloc(), &deflated[..20]));
 }
 
 fn first_byte(hash: Option<Hash>) -> Option<u8> {

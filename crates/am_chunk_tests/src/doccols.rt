@@ -242,28 +242,29 @@ const WITH_DEPS: &[u8] = &[
     0x05, 0x01, 0x02, 0x03, 0x02, 0x13, 0x02, 0x40, 0x02, 0x43, 0x02,
 ];
 
+// The columns, their bytes, and what is wrong with them.
+const NO_ROWS: &[(&[u8], &[u8], Option<&str>)] = &[
+    (ALONE, b"\x7f\x00\x7f\x01\x7f\x00", None),
+    (ALONE, b"\x7f\x01\x7f\x01\x7f\x00", Some("no such actor")),
+    (ALONE, b"\x7f\x00\x7f\x00\x7f\x00", Some("a number of 0")),
+    (ALONE, b"\x7f\x00\x00\x01\x7f\x00", Some("a null")),
+    (WITH_EXTRA, b"\x7f\x00\x7f\x01\x7f\x00\x7f\x00", None),
+    (
+        WITH_EXTRA,
+        b"\x7f\x00\x7f\x01\x7f\x00\x7f\x01",
+        Some("extra bytes of kind 1"),
+    ),
+    (WITH_DEPS, b"\x7f\x00\x7f\x01\x7f\x00\x7f\x01\x7f\x00", None),
+    (
+        WITH_DEPS,
+        b"\x7f\x00\x7f\x01\x7f\x00\x7f\x01\x7f\x01",
+        Some("a dependency that is no change row"),
+    ),
+];
+
 #[test]
 fn refuses_what_is_no_change_row(rt: HostRuntime) {
-    // The columns, their bytes, and what is wrong with them.
-    let cases: &[(&[u8], &[u8], Option<&str>)] = &[
-        (ALONE, b"\x7f\x00\x7f\x01\x7f\x00", None),
-        (ALONE, b"\x7f\x01\x7f\x01\x7f\x00", Some("no such actor")),
-        (ALONE, b"\x7f\x00\x7f\x00\x7f\x00", Some("a number of 0")),
-        (ALONE, b"\x7f\x00\x00\x01\x7f\x00", Some("a null")),
-        (WITH_EXTRA, b"\x7f\x00\x7f\x01\x7f\x00\x7f\x00", None),
-        (
-            WITH_EXTRA,
-            b"\x7f\x00\x7f\x01\x7f\x00\x7f\x01",
-            Some("extra bytes of kind 1"),
-        ),
-        (WITH_DEPS, b"\x7f\x00\x7f\x01\x7f\x00\x7f\x01\x7f\x00", None),
-        (
-            WITH_DEPS,
-            b"\x7f\x00\x7f\x01\x7f\x00\x7f\x01\x7f\x01",
-            Some("a dependency that is no change row"),
-        ),
-    ];
-    for &(metadata, body, wrong) in cases {
+    for &(metadata, body, wrong) in NO_ROWS {
         assert_eq!(rt;
             are_metas(metadata, body),
             wrong.is_none(),

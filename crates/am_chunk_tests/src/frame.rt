@@ -1,5 +1,6 @@
 //! Chunks that the reference encoder made.
 use am_frame::{FrameFault, framed, next_frame};
+use std::alloc::{AllocError, Global};
 use std::test::Fail;
 
 /// A change that sets the key "a" to 1, and a document without changes.
@@ -29,47 +30,53 @@ fn reads_and_writes_chunks(rt: HostRuntime) -> Result<(), Fail> {
     Ok(())
 }
 
+// What stands in place of magic, checksum, type and length of the change, and the fault.
+const WRONG: &[(&[u8], FrameFault)] = &[
+    (
+        b"\x84\x6f\x4a\x83\xd8\x9a\xa0\x4d\x01\x20",
+        FrameFault::BadMagic,
+    ),
+    (
+        b"\x85\x6f\x4a\x83\xd9\x9a\xa0\x4d\x01\xff\x7f",
+        FrameFault::Truncated,
+    ),
+    (
+        b"\x85\x6f\x4a\x83\xd9\x9a\xa0\x4d\x01\xa0\x00",
+        FrameFault::BadLength,
+    ),
+    (
+        b"\x85\x6f\x4a\x83\xd8\x9a\xa0\x4d\x01\x20",
+        FrameFault::BadChecksum,
+    ),
+    (
+        b"\x85\x6f\x4a\x83\xd9\x9a\xa0\x4d\x02\x20",
+        FrameFault::BadChecksum,
+    ),
+    (
+        b"\x85\x6f\x4a\x83\x51\x13\xf8\xe0\x07\x20",
+        FrameFault::ChunkType(7),
+    ),
+    (
+        b"\x85\x6f\x4a\x83\x44\x1c\xda\x16\x02\x20",
+        FrameFault::CompressedChunk,
+    ),
+    (
+        b"\x85\x6f\x4a\x83\x44\x1c\xda\x16\x07\x20",
+        FrameFault::BadChecksum,
+    ),
+];
+
+// What is wrong with the chunk that begins with these bytes.
+fn fault_of(alloc: Global, head: &[u8]) -> Result<Option<FrameFault>, AllocError> {
+    let mut bytes = head.to_vec(alloc)?;
+    bytes.extend_from_slice(&FILE[10..])?;
+    Ok(next_frame(&bytes).err())
+}
+
 #[test]
 fn names_what_is_wrong_with_a_chunk(rt: HostRuntime) -> Result<(), Fail> {
-    // What stands in place of magic, checksum, type and length of the change, and the fault.
-    let table: &[(&[u8], FrameFault)] = &[
-        (
-            b"\x84\x6f\x4a\x83\xd8\x9a\xa0\x4d\x01\x20",
-            FrameFault::BadMagic,
-        ),
-        (
-            b"\x85\x6f\x4a\x83\xd9\x9a\xa0\x4d\x01\xff\x7f",
-            FrameFault::Truncated,
-        ),
-        (
-            b"\x85\x6f\x4a\x83\xd9\x9a\xa0\x4d\x01\xa0\x00",
-            FrameFault::BadLength,
-        ),
-        (
-            b"\x85\x6f\x4a\x83\xd8\x9a\xa0\x4d\x01\x20",
-            FrameFault::BadChecksum,
-        ),
-        (
-            b"\x85\x6f\x4a\x83\xd9\x9a\xa0\x4d\x02\x20",
-            FrameFault::BadChecksum,
-        ),
-        (
-            b"\x85\x6f\x4a\x83\x51\x13\xf8\xe0\x07\x20",
-            FrameFault::ChunkType(7),
-        ),
-        (
-            b"\x85\x6f\x4a\x83\x44\x1c\xda\x16\x02\x20",
-            FrameFault::CompressedChunk,
-        ),
-        (
-            b"\x85\x6f\x4a\x83\x44\x1c\xda\x16\x07\x20",
-            FrameFault::BadChecksum,
-        ),
-    ];
-    for &(head, fault) in table {
-        let mut bytes = head.to_vec(rt.alloc())?;
-        bytes.extend_from_slice(&FILE[10..])?;
-        assert_eq!(rt; next_frame(&bytes).err(), Some(fault), "at {head:?}");
+    for &(head, fault) in WRONG {
+        assert_eq!(rt; fault_of(rt.alloc(), head)?, Some(fault), "at {head:?}");
     }
     assert_eq!(rt; next_frame(&[]).err(), Some(FrameFault::Truncated));
     assert_eq!(rt; next_frame(&FILE[..41]).err(), Some(FrameFault::Truncated));

@@ -74,11 +74,12 @@ fn is_at_front(change: &Change) -> bool {
     }
 }
 
+// How many changes are asked for, and how many operations they have.
+const COUNTS: &[(u8, usize)] = &[(0, 0), (1, 2), (4, 11)];
+
 #[test]
 fn counts_are_as_asked(rt: HostRuntime) -> Result<(), Fail> {
-    // How many changes are asked for, and how many operations they have.
-    let cases: [(u8, usize); 3] = [(0, 0), (1, 2), (4, 11)];
-    for (count, want) in cases {
+    for &(count, want) in COUNTS {
         let changes = made(rt.alloc(), u64::from(count))?;
         assert_eq!(rt; changes.len(), usize::from(count));
         assert_eq!(rt; operations(changes.as_slice()), want, "of {count} changes");

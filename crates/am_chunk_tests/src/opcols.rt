@@ -131,16 +131,17 @@ fn is_read(body: &[u8]) -> bool {
     cursor(&METADATA, body, &[0x00]).is_some()
 }
 
+// A byte of the body, what stands in its place, and what is wrong with that.
+const BAD: &[(usize, u8, &str)] = &[
+    (5, 0x08, "an action above 7"),
+    (12, 0x01, "an actor that isn't listed"),
+    (14, 0x00, "a counter of 0"),
+    (10, 0x02, "a length without ids"),
+];
+
 #[test]
 fn refuses_columns(rt: HostRuntime) {
-    // A byte of the body, what stands in its place, and what is wrong with that.
-    let cases: &[(usize, u8, &str)] = &[
-        (5, 0x08, "an action above 7"),
-        (12, 0x01, "an actor that isn't listed"),
-        (14, 0x00, "a counter of 0"),
-        (10, 0x02, "a length without ids"),
-    ];
-    for &(place, byte, why) in cases {
+    for &(place, byte, why) in BAD {
         let mut bad = BODY;
         if let Some(at) = bad.get_mut(place) {
             *at = byte;

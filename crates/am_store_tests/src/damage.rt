@@ -170,7 +170,7 @@ const RUNS: [u8; 70] = [
 ];
 
 /// What stands between the numbers of rows, which are one.
-const BETWEEN: [&[u8]; 8] = [
+const BETWEEN: &[&[u8]] = &[
     &[0x7f, 0x00, 0x7f, 0x00, 0x7f, 0x07],
     &[0x01, 0x61],
     &[0x00],
@@ -192,7 +192,7 @@ fn runs_have_as_many_rows_as_there_may_be(rt: HostRuntime) {
 /// The contents with so many rows.
 fn of_rows(rt: &impl Abort, alloc: Global, count: &[u8]) -> Vec<u8> {
     let mut contents = RUNS.to_vec(alloc).expect(rt, "there is memory");
-    for piece in BETWEEN {
+    for &piece in BETWEEN {
         push(rt, &mut contents, count);
         push(rt, &mut contents, piece);
     }

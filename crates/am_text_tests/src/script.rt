@@ -2,6 +2,7 @@
 use am_script::{Command, LineFault, Plan, PlanFault, plan, read_line};
 use am_types::{List, Text};
 use std::alloc::Global;
+use std::process::Abort;
 use std::test::Fail;
 
 const A_HASH: &str = "0000000000000000000000000000000000000000000000000000000000ABcdef";
@@ -33,55 +34,67 @@ fn parts(command: &Command) -> (&'static str, &str, u64) {
     }
 }
 
+fn is_command(rt: &impl Abort, alloc: Global, line: &[u8], want: (&str, &str, u64)) {
+    match read_line(alloc, line) {
+        Ok(Some(command)) => assert_eq!(rt; parts(&command), want),
+        _ => assert!(rt; false, "{want:?}"),
+    }
+}
+
+// Lines, and the parts of their commands.
+const LINES: &[(&str, (&str, &str, u64))] = &[
+    ("frames A1", ("frames", "A1", 0)),
+    ("show", ("show", "", 0)),
+    ("heads", ("heads", "", 0)),
+    ("history", ("history", "", 0)),
+    ("stats", ("stats", "", 0)),
+    ("audit", ("audit", "", 0)),
+    ("bench 0", ("bench", "", 0)),
+    ("bench 100000", ("bench", "", 100_000)),
+];
+
 #[test]
 fn lines_are_commands(rt: HostRuntime) -> Result<(), Fail> {
     let alloc = rt.alloc();
     assert!(rt; matches!(read_line(alloc, b""), Ok(None)));
-    let show = format!(in alloc; "show {A_HASH} {A_HASH}")?;
-    let export = format!(in alloc; "export {A_HASH} A1")?;
-    let cases: &[(&[u8], (&str, &str, u64))] = &[
-        (b"frames A1", ("frames", "A1", 0)),
-        (b"show", ("show", "", 0)),
-        (show.as_bytes(), ("show", "", 2)),
-        (b"heads", ("heads", "", 0)),
-        (export.as_bytes(), ("export", "A1", 1)),
-        (b"history", ("history", "", 0)),
-        (b"stats", ("stats", "", 0)),
-        (b"audit", ("audit", "", 0)),
-        (b"bench 0", ("bench", "", 0)),
-        (b"bench 100000", ("bench", "", 100_000)),
-    ];
-    for &(line, want) in cases {
-        match read_line(alloc, line) {
-            Ok(Some(command)) => assert_eq!(rt; parts(&command), want),
-            _ => assert!(rt; false, "{want:?}"),
-        }
+    for &(line, want) in LINES {
+        is_command(&rt, alloc, line.as_bytes(), want);
     }
+    let show = format!(in alloc; "show {A_HASH} {A_HASH}")?;
+    is_command(&rt, alloc, show.as_bytes(), ("show", "", 2));
+    let export = format!(in alloc; "export {A_HASH} A1")?;
+    is_command(&rt, alloc, export.as_bytes(), ("export", "A1", 1));
     Ok(())
 }
+
+fn fault_of(alloc: Global, line: &[u8]) -> Option<LineFault> {
+    read_line(alloc, line).err()
+}
+
+// Lines, and why they are refused.
+const REFUSED: &[(&str, LineFault)] = &[
+    ("show x", LineFault::BadHash),
+    ("conflicts x", LineFault::BadHash),
+    ("export x A1", LineFault::BadHash),
+    ("export x", LineFault::Syntax),
+    ("shows x", LineFault::Syntax),
+    ("show  x", LineFault::Syntax),
+    ("heads ", LineFault::Syntax),
+    ("heads x", LineFault::Syntax),
+    ("bench 100001", LineFault::Syntax),
+    ("bench 01", LineFault::Syntax),
+    ("bench +1", LineFault::Syntax),
+    ("bench 18446744073709551617", LineFault::Syntax),
+];
 
 #[test]
 fn lines_are_refused(rt: HostRuntime) -> Result<(), Fail> {
     let alloc = rt.alloc();
     let long = vec![in alloc; b'x'; 65_537]?;
     assert!(rt; matches!(read_line(alloc, &long), Err(LineFault::TooLong)));
-    let cases: &[(&[u8], LineFault)] = &[
-        (&long[1..], LineFault::Syntax),
-        (b"show x", LineFault::BadHash),
-        (b"conflicts x", LineFault::BadHash),
-        (b"export x A1", LineFault::BadHash),
-        (b"export x", LineFault::Syntax),
-        (b"shows x", LineFault::Syntax),
-        (b"show  x", LineFault::Syntax),
-        (b"heads ", LineFault::Syntax),
-        (b"heads x", LineFault::Syntax),
-        (b"bench 100001", LineFault::Syntax),
-        (b"bench 01", LineFault::Syntax),
-        (b"bench +1", LineFault::Syntax),
-        (b"bench 18446744073709551617", LineFault::Syntax),
-    ];
-    for &(line, fault) in cases {
-        assert_eq!(rt; read_line(alloc, line).err(), Some(fault), "{line:?}");
+    assert!(rt; matches!(read_line(alloc, &long[1..]), Err(LineFault::Syntax)));
+    for &(line, fault) in REFUSED {
+        assert_eq!(rt; fault_of(alloc, line.as_bytes()), Some(fault), "{line}");
     }
     Ok(())
 }
@@ -105,19 +118,20 @@ fn a_long_name_is_told_before_a_bad_hash(rt: HostRuntime) -> Result<(), Fail> {
     Ok(())
 }
 
+// The words, and those of the commands that they mean.
+const PLANS: &[(&[&str], &[&str])] = &[
+    (&["show", "d", A_HASH], &["load", "show"]),
+    (&["check", "d"], &["load"]),
+    (&["normalize", "x", "y"], &["load", "save"]),
+    (&["history", "d"], &["load", "history"]),
+];
+
 #[test]
 fn words_have_plans(rt: HostRuntime) -> Result<(), Fail> {
     let alloc = rt.alloc();
     let run = words(&rt, &["run"])?;
     assert!(rt; matches!(plan(alloc, run.as_slice()), Ok(Plan::ReadInput)));
-    // The words, and those of the commands that they mean.
-    let cases: &[(&[&str], &[&str])] = &[
-        (&["show", "d", A_HASH], &["load", "show"]),
-        (&["check", "d"], &["load"]),
-        (&["normalize", "x", "y"], &["load", "save"]),
-        (&["history", "d"], &["load", "history"]),
-    ];
-    for &(texts, want) in cases {
+    for &(texts, want) in PLANS {
         let list = words(&rt, texts)?;
         match plan(alloc, list.as_slice()) {
             Ok(Plan::Lines(lines)) => assert!(rt;
@@ -134,18 +148,20 @@ fn words_have_plans(rt: HostRuntime) -> Result<(), Fail> {
     Ok(())
 }
 
+// Words that mean nothing.
+const NO_PLANS: &[&[&str]] = &[
+    &[],
+    &["show"],
+    &["show", "d", "x"],
+    &["help"],
+    &["check", "-d"],
+    &["history", "d", "e"],
+];
+
 #[test]
 fn words_have_no_plan(rt: HostRuntime) -> Result<(), Fail> {
     let alloc = rt.alloc();
-    let cases: &[&[&str]] = &[
-        &[],
-        &["show"],
-        &["show", "d", "x"],
-        &["help"],
-        &["check", "-d"],
-        &["history", "d", "e"],
-    ];
-    for &texts in cases {
+    for &texts in NO_PLANS {
         let list = words(&rt, texts)?;
         let fault = plan(alloc, list.as_slice()).err();
         assert_eq!(rt; fault, Some(PlanFault::BadWords), "{texts:?}");
