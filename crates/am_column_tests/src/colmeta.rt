@@ -13,43 +13,45 @@ const BODY: [u8; 13] = [
 
 const KNOWN: [u64; 7] = [0x15, 0x34, 0x42, 0x56, 0x57, 0x70, 0xb2];
 
+// Metadata, a body, and why the columns are refused.
+const REFUSALS: &[(&[u8], &[u8], Option<ColumnFault>)] = &[
+    (
+        &[0x01, 0x1d, 0x00],
+        &[],
+        Some(ColumnFault::CompressedColumn),
+    ),
+    (
+        &[0x02, 0x15, 0x00, 0x15, 0x00],
+        &[],
+        Some(ColumnFault::NotAscending),
+    ),
+    (
+        &[0x01, 0x61, 0x00],
+        &[],
+        Some(ColumnFault::UnknownColumn(97)),
+    ),
+    (&[0x01, 0x15, 0x02], &[0x00], Some(ColumnFault::Width)),
+    (
+        &[0x02, 0x15, 0x00, 0x0d, 0x00],
+        &[],
+        Some(ColumnFault::CompressedColumn),
+    ),
+    (
+        &[0x02, 0x61, 0x00, 0x15, 0x00],
+        &[],
+        Some(ColumnFault::NotAscending),
+    ),
+    (
+        &[0x01, 0x61, 0x02],
+        &[0x00],
+        Some(ColumnFault::UnknownColumn(97)),
+    ),
+    (&[0x01, 0x15, 0x01], &[0x00], None),
+];
+
 #[test]
 fn refuses_in_order(rt: HostRuntime) {
-    let rows: &[(&[u8], &[u8], Option<ColumnFault>)] = &[
-        (
-            &[0x01, 0x1d, 0x00],
-            &[],
-            Some(ColumnFault::CompressedColumn),
-        ),
-        (
-            &[0x02, 0x15, 0x00, 0x15, 0x00],
-            &[],
-            Some(ColumnFault::NotAscending),
-        ),
-        (
-            &[0x01, 0x61, 0x00],
-            &[],
-            Some(ColumnFault::UnknownColumn(97)),
-        ),
-        (&[0x01, 0x15, 0x02], &[0x00], Some(ColumnFault::Width)),
-        (
-            &[0x02, 0x15, 0x00, 0x0d, 0x00],
-            &[],
-            Some(ColumnFault::CompressedColumn),
-        ),
-        (
-            &[0x02, 0x61, 0x00, 0x15, 0x00],
-            &[],
-            Some(ColumnFault::NotAscending),
-        ),
-        (
-            &[0x01, 0x61, 0x02],
-            &[0x00],
-            Some(ColumnFault::UnknownColumn(97)),
-        ),
-        (&[0x01, 0x15, 0x01], &[0x00], None),
-    ];
-    for &(metadata, body, want) in rows {
+    for &(metadata, body, want) in REFUSALS {
         let (list, size) = ColumnList::read(metadata).expect(&rt, "the metadata can be read");
         assert!(rt; size == metadata.len());
         match Columns::over(list, body, &[21]) {
@@ -149,14 +151,15 @@ fn reads_a_list_of_actors(rt: HostRuntime) {
     assert!(rt; ActorList::read(&bytes[..5]).is_err());
 }
 
+// The actors of the first list take as many bytes each, those of the second don't.
+const LISTS: &[&[u8]] = &[
+    &[0x03, 0x01, 0xaa, 0x01, 0xbb, 0x01, 0xcc],
+    &[0x03, 0x01, 0xaa, 0x02, 0xbb, 0xbb, 0x01, 0xcc],
+];
+
 #[test]
 fn leaves_out_actors(rt: HostRuntime) {
-    // The actors of the first list take as many bytes each, those of the second don't.
-    let lists: &[&[u8]] = &[
-        &[0x03, 0x01, 0xaa, 0x01, 0xbb, 0x01, 0xcc],
-        &[0x03, 0x01, 0xaa, 0x02, 0xbb, 0xbb, 0x01, 0xcc],
-    ];
-    for &bytes in lists {
+    for &bytes in LISTS {
         let (actors, size) = ActorList::read(bytes).expect(&rt, "the actors can be read");
         assert!(rt; size == bytes.len());
         let mut rest = actors.again();

@@ -39,17 +39,19 @@ fn taken(rt: HostRuntime) -> Result<(), AllocError> {
     Ok(())
 }
 
+// Bytes, and the most flags.
+const REFUSED: &[(&[u8], u64)] = &[
+    (&[1, 0], 100),
+    (&[0, 2, 0], 100),
+    (&[0x80, 0], 100),
+    (&[0x80], 100),
+    // one flag too many
+    (&[0, 2, 1], 2),
+];
+
 #[test]
 fn refused(rt: HostRuntime) {
-    let bad: &[(&[u8], u64)] = &[
-        (&[1, 0], 100),
-        (&[0, 2, 0], 100),
-        (&[0x80, 0], 100),
-        (&[0x80], 100),
-        // one flag too many
-        (&[0, 2, 1], 2),
-    ];
-    for &(bytes, most) in bad {
+    for &(bytes, most) in REFUSED {
         assert!(rt; FlagCursor::over(bytes, most).is_err(), "of {bytes:?}");
     }
 }
@@ -72,31 +74,35 @@ fn read_many(rt: HostRuntime) {
     assert!(rt; many.next() == Some(true));
 }
 
+// Bytes, and whether they are canonical where falses stand.
+const PLAIN: &[(&[u8], bool)] = &[
+    (&[], true),
+    (&[0, 2, 1], true),
+    (&[3], true),
+    (&[1, 1], true),
+    (&[0], false),
+    (&[1, 0], false),
+    (&[0, 2, 2], false),
+    (&[0x80, 0], false),
+];
+
+// The same where falses alone are left out, with the most flags.
+const MAYBE: &[(&[u8], u64, bool)] = &[
+    (&[], 0, true),
+    (&[0, 2, 1], 3, true),
+    (&[3], 3, false),
+    (&[0], 3, false),
+    (&[1, 0], 3, false),
+    (&[0, 2, 2], 3, false),
+    (&[0x80, 0], 3, false),
+];
+
 #[test]
 fn judged(rt: HostRuntime) {
-    let plain: &[(&[u8], bool)] = &[
-        (&[], true),
-        (&[0, 2, 1], true),
-        (&[3], true),
-        (&[1, 1], true),
-        (&[0], false),
-        (&[1, 0], false),
-        (&[0, 2, 2], false),
-        (&[0x80, 0], false),
-    ];
-    for &(bytes, canonical) in plain {
+    for &(bytes, canonical) in PLAIN {
         assert!(rt; is_canonical(bytes, 3) == canonical, "of {bytes:?}");
     }
-    let maybe: &[(&[u8], u64, bool)] = &[
-        (&[], 0, true),
-        (&[0, 2, 1], 3, true),
-        (&[3], 3, false),
-        (&[0], 3, false),
-        (&[1, 0], 3, false),
-        (&[0, 2, 2], 3, false),
-        (&[0x80, 0], 3, false),
-    ];
-    for &(bytes, most, canonical) in maybe {
+    for &(bytes, most, canonical) in MAYBE {
         assert!(rt;
             is_canonical_maybe(bytes, most) == canonical,
             "of {bytes:?}"

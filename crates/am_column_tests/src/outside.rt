@@ -3,6 +3,7 @@ use am_outside::{
     Failed, FetchFault, Folder, HostFolder, MemoryFolder, MemorySink, MemorySource, ReadSource,
     Sink, Source, SureFolder, SureSink, SureSource, WriteFault, WriteSink,
 };
+use std::alloc::Global;
 use std::collections::VecDeque;
 use std::process::Abort;
 use std::test::Fail;
@@ -14,9 +15,9 @@ fn memory_source_gives_pieces(rt: HostRuntime) -> Result<(), Fail> {
     let alloc = rt.alloc();
     let mut source = MemorySource::new(b"hello".to_vec(alloc)?, 3, vec![in alloc; 1]?);
     let mut buffer = [0u8; 8];
-    for want in [Ok(3), Err(Failed), Ok(2)] {
-        assert_eq!(rt; source.read(&mut buffer), want);
-    }
+    assert!(rt; source.read(&mut buffer) == Ok(3));
+    assert!(rt; source.read(&mut buffer) == Err(Failed));
+    assert!(rt; source.read(&mut buffer) == Ok(2));
     assert!(rt; buffer[0] == b'l');
     assert!(rt; source.read(&mut buffer) == Ok(0));
     Ok(())
@@ -32,18 +33,39 @@ fn memory_sink_takes_pieces(rt: HostRuntime) -> Result<(), Fail> {
     Ok(())
 }
 
-#[test]
-fn memory_folder_keeps_files(rt: HostRuntime) -> Result<(), Fail> {
-    let alloc = rt.alloc();
-    let mut folder = MemoryFolder::new(alloc, vec![in alloc; 3]?);
+// Keeps a file under this name over another one, and fetches it.
+fn keeps_one<F: Folder>(
+    rt: &impl Abort,
+    alloc: Global,
+    folder: &mut F,
+    name: &str,
+) -> Result<(), FetchFault> {
+    assert!(rt; folder.keep(name, b"two") == Ok(()));
+    let bytes = folder.fetch(alloc, name)?;
+    assert!(rt; bytes.as_slice() == b"two".as_slice());
+    Ok(())
+}
+
+fn lacks<F: Folder>(rt: &impl Abort, alloc: Global, folder: &mut F, name: &str) {
+    assert!(rt; matches!(folder.fetch(alloc, name), Err(FetchFault::Absent)));
+}
+
+// The fourth call fails.
+fn memory_keeps(rt: &impl Abort, alloc: Global, folder: &mut MemoryFolder) -> Result<(), Fail> {
     folder.put_file("a", b"one")?;
-    assert!(rt; folder.keep("a", b"two") == Ok(()));
+    keeps_one(rt, alloc, folder, "a")?;
     assert!(rt; folder.file("a") == Some(b"two".as_slice()));
-    assert!(rt; folder.fetch(alloc, "a")?.as_slice() == b"two".as_slice());
-    assert!(rt; matches!(folder.fetch(alloc, "b"), Err(FetchFault::Absent)));
+    lacks(rt, alloc, folder, "b");
     assert!(rt; folder.keep("a", b"three") == Err(WriteFault::Failed));
     assert!(rt; folder.file("a") == None);
     Ok(())
+}
+
+#[test]
+fn memory_folder_keeps_files(rt: HostRuntime) -> Result<(), Fail> {
+    let failing = vec![in rt.alloc(); 3]?;
+    let mut folder = MemoryFolder::new(rt.alloc(), failing);
+    memory_keeps(&rt, rt.alloc(), &mut folder)
 }
 
 // The next reads, of four bytes at most, give these pieces.
@@ -70,16 +92,18 @@ fn sure_sink_does_not_fail(rt: HostRuntime) {
     assert!(rt; sink.bytes() == b"onetwo".as_slice());
 }
 
+fn sure_keeps(rt: &impl Abort, alloc: Global, folder: &mut SureFolder) -> Result<(), Fail> {
+    folder.put_file("a", b"one")?;
+    keeps_one(rt, alloc, folder, "a")?;
+    assert!(rt; folder.file("a") == Some(b"two".as_slice()));
+    lacks(rt, alloc, folder, "b");
+    Ok(())
+}
+
 #[test]
 fn sure_folder_does_not_fail(rt: HostRuntime) -> Result<(), Fail> {
-    let alloc = rt.alloc();
-    let mut folder = SureFolder::new(alloc);
-    folder.put_file("a", b"one")?;
-    assert!(rt; folder.keep("a", b"two") == Ok(()));
-    assert!(rt; folder.file("a") == Some(b"two".as_slice()));
-    assert!(rt; folder.fetch(alloc, "a")?.as_slice() == b"two".as_slice());
-    assert!(rt; matches!(folder.fetch(alloc, "b"), Err(FetchFault::Absent)));
-    Ok(())
+    let mut folder = SureFolder::new(rt.alloc());
+    sure_keeps(&rt, rt.alloc(), &mut folder)
 }
 
 #[test]
@@ -111,9 +135,8 @@ fn host_folder_keeps_files(rt: HostRuntime) -> Result<(), Fail> {
     let name = format!(in alloc; "amstore-host-folder-{now}")?;
     let path = env::temp_dir(&rt)?.join(alloc, name.as_str())?;
     let mut folder = HostFolder::new(&rt);
-    assert!(rt; folder.keep(path.as_str(), b"hello") == Ok(()));
-    assert!(rt; folder.fetch(alloc, path.as_str())?.as_slice() == b"hello".as_slice());
+    keeps_one(&rt, alloc, &mut folder, path.as_str())?;
     fs::remove_file(&rt, path.as_str())?;
-    assert!(rt; matches!(folder.fetch(alloc, path.as_str()), Err(FetchFault::Absent)));
+    lacks(&rt, alloc, &mut folder, path.as_str());
     Ok(())
 }

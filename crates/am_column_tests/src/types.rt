@@ -134,10 +134,13 @@ fn document(alloc: Global) -> Result<Document, ActorFault> {
     })
 }
 
+// How many bytes there are, and whether they are an actor.
+const LENGTHS: &[(usize, bool)] = &[(0, false), (1, true), (1024, true), (1025, false)];
+
 #[test]
 fn actors_have_1_to_1024_bytes(rt: HostRuntime) -> Result<(), Fail> {
     let most = [0x11; 1025];
-    for (len, good) in [(0, false), (1, true), (1024, true), (1025, false)] {
+    for &(len, good) in LENGTHS {
         match ActorId::of(rt.alloc(), &most[..len]) {
             Ok(actor) => assert!(rt; good && actor.as_slice() == &most[..len], "at {len}"),
             Err(fault) => assert!(rt; !good && fault == ActorFault::Length, "at {len}"),
@@ -146,15 +149,17 @@ fn actors_have_1_to_1024_bytes(rt: HostRuntime) -> Result<(), Fail> {
     Ok(())
 }
 
+// Two ids, and how the first stands to the second.
+const IDS: &[(u64, &[u8], u64, &[u8], Ordering)] = &[
+    (1, b"b", 2, b"a", Ordering::Less),
+    (2, b"b", 2, b"a", Ordering::Greater),
+    (2, b"a", 2, b"ab", Ordering::Less),
+    (2, b"a", 2, b"a", Ordering::Equal),
+];
+
 #[test]
 fn ids_go_by_counter_then_actor(rt: HostRuntime) {
-    let table: &[(u64, &[u8], u64, &[u8], Ordering)] = &[
-        (1, b"b", 2, b"a", Ordering::Less),
-        (2, b"b", 2, b"a", Ordering::Greater),
-        (2, b"a", 2, b"ab", Ordering::Less),
-        (2, b"a", 2, b"a", Ordering::Equal),
-    ];
-    for &(counter, actor, other_counter, other_actor, order) in table {
+    for &(counter, actor, other_counter, other_actor, order) in IDS {
         let a = IdRef { counter, actor };
         let b = IdRef {
             counter: other_counter,
@@ -164,31 +169,32 @@ fn ids_go_by_counter_then_actor(rt: HostRuntime) {
     }
 }
 
+const BYTES: &[(&[u8], &[u8], Ordering)] = &[
+    (b"", b"", Ordering::Equal),
+    (b"a", b"ab", Ordering::Less),
+    (b"b", b"ab", Ordering::Greater),
+    (b"just as an actor", b"just as an actor", Ordering::Equal),
+    (b"just as an actor", b"just as an actos", Ordering::Less),
+    (
+        b"these are more than thirty-two bytes",
+        b"these are more than thirty-two bytes",
+        Ordering::Equal,
+    ),
+    (
+        b"these are more than thirty-two bytes",
+        b"these are more than thirty-two byte",
+        Ordering::Greater,
+    ),
+    (
+        b"these are more than thirty-two bytes: a",
+        b"these are more than thirty-two bytes: b",
+        Ordering::Less,
+    ),
+];
+
 #[test]
 fn bytes_go_by_the_first_that_differs(rt: HostRuntime) {
-    let table: &[(&[u8], &[u8], Ordering)] = &[
-        (b"", b"", Ordering::Equal),
-        (b"a", b"ab", Ordering::Less),
-        (b"b", b"ab", Ordering::Greater),
-        (b"just as an actor", b"just as an actor", Ordering::Equal),
-        (b"just as an actor", b"just as an actos", Ordering::Less),
-        (
-            b"these are more than thirty-two bytes",
-            b"these are more than thirty-two bytes",
-            Ordering::Equal,
-        ),
-        (
-            b"these are more than thirty-two bytes",
-            b"these are more than thirty-two byte",
-            Ordering::Greater,
-        ),
-        (
-            b"these are more than thirty-two bytes: a",
-            b"these are more than thirty-two bytes: b",
-            Ordering::Less,
-        ),
-    ];
-    for &(a, b, order) in table {
+    for &(a, b, order) in BYTES {
         assert_eq!(rt; compare_bytes(a, b), order);
         assert_eq!(rt; same_bytes(a, b), order.is_eq());
     }
