@@ -27,6 +27,7 @@ use Rattle.am_graph.specs.declared.parts.Mark.{Mark}
 use Rattle.am_graph.specs.declared.reach.Reach.{Reach}
 use Rattle.am_graph.specs.Graphs.{node_of, nodes, ForSet, names, is_held, missing, IsSound, IsLeast, having}
 use Rattle.am_graph.specs.Reaches.{number, IsTableOf}
+use Rattle.am_graph.specs.Numbers.{with_text}
 use Rattle.am_graph.specs.Whole.{WholeOf, MarkOf, Notes, lesser}
 use Rattle.am_graph.proofs.Held.{is_held-nodes}
 use Rattle.am_graph.proofs.Joining.{sound_push, all_held}
@@ -35,7 +36,8 @@ use Rattle.std.proofs.lemmas.Cmp.{tied_itself}
 use Rattle.am_graph.specs.Reaches.{end}
 use Rattle.am_graph.proofs.Walking.{attained_within}
 use Rattle.am_graph.proofs.Descent.{among_one, from_one}
-use Rattle.am_graph.proofs.Naming.{number_more, number_back, table_more, having_none}
+use Rattle.am_graph.proofs.Naming.{some_or, number_more, number_back, table_more, having_none}
+use Rattle.am_graph.proofs.Numbering.{with_new, with_old}
 
 -- ---- the members of a graph by their places
 
@@ -127,6 +129,12 @@ module _ (g : List (Hash × Node)) (marks : List Mark) (authors : List (List ℕ
     ];
     unnamed = λ a q l. whole.unnamed a q (omega arith);
   }
+
+  pub whole_with : WholeOf g marks (with_text authors y) f
+  whole_with = elim (some_or (number authors y)) [
+    | inl n ↦ subst (λ n. WholeOf g marks n f) (sym (with_old authors y n.0 n.1)) whole
+    | inr n ↦ subst (λ n. WholeOf g marks n f) (sym (with_new authors y n)) whole_named
+  ]
 
 -- ---- a change joins
 

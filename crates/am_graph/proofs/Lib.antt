@@ -10,6 +10,8 @@ pub mod Deepest
 pub mod Growing
 pub mod Guessing
 pub mod Naming
+pub mod TextMaps
+pub mod Numbering
 pub mod Ranking
 pub mod Descent
 pub mod Finding

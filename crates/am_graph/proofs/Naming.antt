@@ -29,7 +29,7 @@ place_is p (x ∷ xs) =
       | inr l ↦ ap (λ t. cond t (Some (1 + a)) None) (le-ltb (1 + a) (suc b) (omega arith)) ∙ sym (ap (λ t. option_map suc (cond t (Some a) None)) (le-ltb a b l))
     ]
 
-some_or : {X : Type 0} (o : Option X) → ((x : X) × (o ≡ Some x)) ⊎ (o ≡ None)
+pub some_or : {X : Type 0} (o : Option X) → ((x : X) × (o ≡ Some x)) ⊎ (o ≡ None)
 some_or None = inr refl
 some_or (Some x) = inl (x, refl)
 

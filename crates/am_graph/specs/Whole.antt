@@ -23,7 +23,7 @@ abbrev pub pair_cmp : ℕ × ℕ → ℕ × ℕ → Ordering
 pair_cmp p q = ordering_then (nat_cmp p.0 q.0) (nat_cmp p.1 q.1)
 
 abbrev pub authors_of : Parts → List (List ℕ)
-authors_of s = map (λ v. v.items) s.authors.keys
+authors_of s = s.authors
 
 abbrev pub first_in : BTreeMap (ℕ × ℕ) Hash → ℕ → ℕ → Option Hash
 first_in firsts a q = get pair_cmp firsts (a, q)

@@ -1,5 +1,5 @@
 //! Clocks: how far each actor's changes go among some changes.
-ghost use Rattle.std.specs.Prelude.{◌≡◌, ◌↔◌, List, ℕ, All, Contains, IfOk, OnOk, IfErr, IsTrue, Some, map, true};
+ghost use Rattle.std.specs.Prelude.{◌≡◌, ◌↔◌, List, ℕ, All, Contains, IfOk, OnOk, IfErr, IsTrue, Some, true};
 ghost use Rattle.std.specs.List.{zip};
 ghost use Rattle.am_types.specs.Ancestors.{ancestors};
 ghost use Rattle.am_types.specs.Members.{Member};
@@ -12,10 +12,10 @@ ghost use Rattle.am_graph.specs.Graphs.{is_held, missing, ForSet, MatchFault};
 
 use crate::fault::ClockFault;
 use crate::graph::Graph;
+use crate::numbered_texts::NumberedTexts;
 use crate::places::last_place;
 use crate::reach::Reach;
-use am_types::{Hash, IdRef};
-use indexmap::IndexSet;
+use am_types::{Hash, IdRef, Twin};
 use std::alloc::Global;
 use std::marker::Model;
 
@@ -23,35 +23,35 @@ use std::marker::Model;
 /// its changes go.
 #[derive(Drop)]
 pub struct Clock {
-    authors: IndexSet<Vec<u8>>,
+    authors: NumberedTexts,
     table: Vec<Reach>,
 }
 
 impl Model for Clock {
-    ghost use Rattle.std.specs.Prelude.{List, ℕ, map};
+    ghost use Rattle.std.specs.Prelude.{List, ℕ};
     ghost use Rattle.std.specs.List.{zip};
     ghost use Rattle.am_graph.specs.declared.reach.Reach.{Reach};
 
     ghost Value = { List (List ℕ × Reach) };
 
-    ghost view = { λ c. zip (map (λ v. v.items) c.authors.keys) c.table.items };
+    ghost view = { λ c. zip c.authors c.table.items };
 }
 
 /// A [`Clock`] over the actors of a graph, which are not copied.
 #[derive(Drop)]
 pub struct Reached<'a> {
-    authors: &'a IndexSet<Vec<u8>>,
+    authors: &'a NumberedTexts,
     table: Vec<Reach>,
 }
 
 impl<'a> Model for Reached<'a> {
-    ghost use Rattle.std.specs.Prelude.{List, ℕ, map};
+    ghost use Rattle.std.specs.Prelude.{List, ℕ};
     ghost use Rattle.std.specs.List.{zip};
     ghost use Rattle.am_graph.specs.declared.reach.Reach.{Reach};
 
     ghost Value = { List (List ℕ × Reach) };
 
-    ghost view = { λ c. zip (map (λ v. v.items) c.authors.now.keys) c.table.items };
+    ghost view = { λ c. zip c.authors.now c.table.items };
 }
 
 impl Graph {
@@ -64,7 +64,7 @@ impl Graph {
         let table = self
             .parts
             .table(alloc, heads, last_place(&self.parts.held))?;
-        let authors = self.parts.authors.clone()?;
+        let authors = self.parts.authors.copy(alloc)?;
         Ok(Clock { authors, table })
     }
 
@@ -133,10 +133,10 @@ impl<'a> Reached<'a> {
 }
 
 /// How far the table goes for the actor.
-fn reach_of(authors: &IndexSet<Vec<u8>>, table: &[Reach], actor: &[u8]) -> Reach
-    ensures { result ≡ reach_of (zip (map (λ v. v.items) authors.now.keys) table.now) actor.now }
+fn reach_of(authors: &NumberedTexts, table: &[Reach], actor: &[u8]) -> Reach
+    ensures { result ≡ reach_of (zip authors.now table.now) actor.now }
 {
-    if let Some(author) = authors.get_index_of(actor) {
+    if let Some(author) = authors.number_of(actor) {
         if author < table.len() {
             return table[author];
         }

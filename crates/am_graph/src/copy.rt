@@ -26,7 +26,7 @@ impl Parts {
     {
         let held = copy_changes(alloc, &self.held)?;
         let marks = self.marks.clone()?;
-        let authors = self.authors.clone()?;
+        let authors = self.authors.copy(alloc)?;
         let firsts = self.firsts.clone()?;
         Ok(Parts {
             held,

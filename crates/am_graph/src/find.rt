@@ -15,7 +15,7 @@ impl Graph {
         ensures graph { IsLeast result (having self.now actor.now seq) }
         ensures set { ForSet self.now (λ C. IsLeast result (hashes (filter (has_seq actor.now seq) C))) }
     {
-        let Some(author) = self.parts.authors.get_index_of(actor) else {
+        let Some(author) = self.parts.authors.number_of(actor) else {
             return None;
         };
         self.parts.firsts.get(&(author, seq)).copied()

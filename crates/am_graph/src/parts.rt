@@ -8,10 +8,11 @@ ghost use Rattle.am_graph.specs.Whole.{IsWhole, IsMarkOf, Notes, lesser, authors
 ghost use Rattle.std.specs.BTreeMap.{IsUnchanged};
 
 use crate::node::Node;
+use crate::numbered_texts::NumberedTexts;
 use crate::places::place_of;
 use crate::reach::{Reach, raise};
 use am_types::Hash;
-use indexmap::{IndexMap, IndexSet};
+use indexmap::IndexMap;
 use std::alloc::{AllocError, Global};
 use std::cmp::Ordering;
 use std::collections::BTreeMap;
@@ -45,7 +46,7 @@ pub(crate) struct Parts {
     /// What is kept beside each of them.
     pub marks: Vec<Mark>,
     /// The authors, each with its place as its number. There may be more than those of the changes.
-    pub authors: IndexSet<Vec<u8>>,
+    pub authors: NumberedTexts,
     /// The least hash of an author's changes with some seq.
     pub firsts: BTreeMap<(usize, u64), Hash>,
 }
@@ -59,7 +60,7 @@ impl Parts {
         Parts {
             held: IndexMap::new(alloc),
             marks: Vec::new(alloc),
-            authors: IndexSet::new(alloc),
+            authors: NumberedTexts::new(alloc),
             firsts: BTreeMap::new(alloc),
         }
     }
@@ -71,12 +72,7 @@ impl Parts {
         ensures held { self.new.held ≡ self.old.held }
         ensures number { IfOk result (λ a. number (authors_of self.new) actor.now ≡ Some a) }
     {
-        if let Some(author) = self.authors.get_index_of(actor) {
-            return Ok(author);
-        }
-        let name = Vec::from_slice(alloc, actor)?;
-        let author = self.authors.len();
-        self.authors.insert(name)?;
+        let author = self.authors.number(alloc, actor)?;
         Ok(author)
     }
 

@@ -25,7 +25,7 @@ impl Parts {
         guess: usize,
     ) -> Result<Vec<Reach>, ClockFault>
         requires { IsWhole self.now }
-        ensures len { IfOk result (λ table. length table.items ≡ length self.now.authors.keys) }
+        ensures len { IfOk result (λ table. length table.items ≡ length (authors_of self.now)) }
         ensures table { IfOk result (λ table. ForSet self.now.held.entries (λ C. IsTableOf (authors_of self.now) (ancestors C heads.now) table.items)) }
         ensures held { OnOk result (All (λ h. is_held self.now.held.entries h ≡ true) heads.now) }
         ensures unknown { IfErr result (λ fault. MatchFault fault (λ h. missing self.now.held.entries heads.now ≡ Some h)) }

@@ -7,12 +7,11 @@ use Rattle.am_graph.specs.contracts.parts.MarkClone.TheImpl as clone
 use Rattle.am_graph.specs.declared.parts.Mark.{Mark}
 use Rattle.am_graph.specs.declared.reach.Reach.{Reach}
 use Rattle.am_graph.specs.Whole.{WholeOf, authors_of, pair_cmp}
-use Rattle.am_graph.proofs.Clocking.{names_cloned}
 use Rattle.am_graph.proofs.Copying.{IsAlike, whole_alike}
 use Rattle.am_graph.proofs.parts.Parts.copy.Goals as goal
 
 authors_same : (c : goal.In_ok-firsts) → authors_of (record { held = c.in_ok-held.held; marks = c.in_ok-marks.marks; authors = c.in_ok-authors.authors; firsts = c.in_ok-firsts.firsts }) ≡ authors_of c.args.self.now
-authors_same c = names_cloned (λ v. v.items) _ (λ v w r. same_from_all_zip _ v.items w.items r.0 (λ x y h. h)) c.args.self.now.authors.keys c.in_ok-authors.authors.keys c.in_ok-authors.ensures.cases
+authors_same c = c.in_ok-authors.ensures
 
 firsts_same : (c : goal.In_ok-firsts) → c.in_ok-firsts.firsts.entries ≡ c.args.self.now.firsts.entries
 firsts_same c = same_from_all_zip _ c.args.self.now.firsts.entries c.in_ok-firsts.firsts.entries c.in_ok-firsts.ensures.cases (λ x y h i. ((h.0.0 i, h.0.1 i), h.1 i))

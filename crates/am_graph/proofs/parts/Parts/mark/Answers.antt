@@ -3,7 +3,6 @@ use Rattle.am_types.specs.Ancestors.{ancestors}
 use Rattle.am_graph.specs.declared.node.Node.{Node}
 use Rattle.am_graph.specs.Reaches.{number, Raised, IsTableOf}
 use Rattle.am_graph.specs.Whole.{authors_of}
-use Rattle.am_graph.proofs.Naming.{length-names}
 use Rattle.am_graph.proofs.Pending.{written_back}
 use Rattle.am_graph.proofs.Walking.{joined_table}
 use Rattle.am_graph.proofs.parts.Parts.mark.Goals as goal
@@ -19,7 +18,7 @@ returns c =
       depth = λ C is x e. c.depth_above-depth.ensures.depth C is x (ap (λ q. q.deps) e ∙ sym c.as_slice.ensures);
       shallow = c.depth_above-depth.ensures.shallow;
       kept = (
-        (let a = ap length back in let b = c.raise.auto.table in let d = ap length c.as_mut_slice.ensures.value in let f = c.in-Ok.ensures.len in let g = length-names (λ v. v.items) s.authors.keys in omega arith),
+        (let a = ap length back in let b = c.raise.auto.table in let d = ap length c.as_mut_slice.ensures.value in let f = c.in-Ok.ensures.len in omega arith),
         λ C is m e.
             subst (λ T. IsTableOf (authors_of s) (m ∷ ancestors C n.deps) T) (sym back)
             (joined_table (authors_of s) (ancestors C n.deps) c.in-Ok.table.items c.raise.new.table c.args.author m (ap (λ q. number (authors_of s) q.actor) e ∙ c.requires.author)

@@ -10,7 +10,6 @@ use Rattle.am_graph.specs.Reaches.{reach_at, unreached}
 use Rattle.am_graph.specs.Whole.{authors_of}
 use Rattle.am_graph.specs.Walks.{waits, is_place_of, Walk}
 use Rattle.am_graph.proofs.Growing.{one_hash}
-use Rattle.am_graph.proofs.Naming.{length-names}
 use Rattle.am_graph.proofs.Pending.{blank_at, written_back, left_fewer, left_split, left_below}
 use Rattle.am_graph.proofs.Visiting.{place_within}
 use Rattle.am_graph.proofs.Walking.{walk_starts, walk_ends}
@@ -21,7 +20,7 @@ loop-init c =
     let s = c.args.self.now in
     let waits_are : (k : ℕ) → waits c.wait.new.pending k ≡ is_place_of s.held.entries c.args.heads.now k = λ k. c.in_ok-wait.ensures.ok k ∙ ap (λ ks. list_any (is_at (nat_cmp k)) ks || is_place_of s.held.entries c.args.heads.now k) c.new-pending.ensures.empty in
     record {
-      len = ap length c.in_ok-table.ensures ∙ length-replicate c.len.result unreached ∙ c.len.ensures.len ∙ sym (length-names (λ v. v.items) s.authors.keys);
+      len = ap length c.in_ok-table.ensures ∙ length-replicate c.len.result unreached ∙ c.len.ensures;
       held = c.in_ok-wait.ensures.held;
       walk = λ C is. walk_starts (authors_of s) C (one_hash C (subst IsSound is c.requires.sound)) c.args.heads.now (waits c.wait.new.pending) c.in_ok-table.table.items
           (λ k. waits_are k ∙ ap (λ g. is_place_of g c.args.heads.now k) is)
