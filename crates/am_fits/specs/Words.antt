@@ -5,7 +5,7 @@
 --     id_in w k, object_in w k, slot_in w k, fact_in w k     what a key means
 --     IsIdOf w k i ..     k is the key of the id i
 --     IsLast w l          l has an actor and its number
-use Rattle.std.specs.Prelude.{ℕ, ◌≡◌, List, [], map, All, Some, slice_index_or, ⊤}
+use Rattle.std.specs.Prelude.{ℕ, ◌≡◌, List, [], All, Some, slice_index_or, ⊤}
 use Rattle.am_types.specs.declared.OpId.{OpId}
 use Rattle.am_types.specs.declared.ObjId.{ObjId}
 use Rattle.am_types.specs.declared.ObjId.TheVariants as object
@@ -33,7 +33,7 @@ pub record Words : Type 0 where
   pub names : List (List ℕ)
 
 abbrev pub words_of : Texts → Words
-words_of t = record { authors = map (λ v. v.items) t.authors.keys; names = map (λ v. v.items) t.names.keys }
+words_of t = record { authors = t.authors; names = t.names }
 
 pub record WordsGrow (old new : Words) : Type 0 where
   pub authors : Grows old.authors new.authors

@@ -86,8 +86,8 @@ impl OpIndex {
 }
 
 impl Twin for OpIndex {
-    fn copy(&self, _alloc: Global) -> Result<OpIndex, AllocError> {
-        let table = self.table.copy()?;
+    fn copy(&self, alloc: Global) -> Result<OpIndex, AllocError> {
+        let table = self.table.copy(alloc)?;
         Ok(OpIndex {
             table,
             totals: self.totals,

@@ -14,8 +14,8 @@ use crate::runs::{Run, cut_each, enter, make_room, place_of};
 use crate::seen::{Seen, SlotRef};
 use crate::spans::{Span, drop_last};
 use crate::texts::{number, text_at};
-use am_types::{IdRef, KeyRef, ObjRef, ReadChange, ReadOp, same_actor};
-use indexmap::IndexSet;
+use am_graph::NumberedTexts;
+use am_types::{IdRef, KeyRef, ObjRef, ReadChange, ReadOp, Twin, same_actor};
 use std::alloc::{AllocError, Global};
 
 /// An id: the number of its actor among the authors, and its counter.
@@ -52,8 +52,8 @@ pub(crate) struct Kept {
 /// The actors and the names that keys speak of, each with its place as its number.
 #[derive(Drop)]
 pub(crate) struct Texts {
-    pub authors: IndexSet<Vec<u8>>,
-    pub names: IndexSet<Vec<u8>>,
+    pub authors: NumberedTexts,
+    pub names: NumberedTexts,
 }
 
 /// Operations by their places, in the order in which they came.
@@ -215,8 +215,8 @@ impl Table {
     {
         Table {
             texts: Texts {
-                authors: IndexSet::new(alloc),
-                names: IndexSet::new(alloc),
+                authors: NumberedTexts::new(alloc),
+                names: NumberedTexts::new(alloc),
             },
             kept: Vec::new(alloc),
             spans: Vec::new(alloc),
@@ -228,7 +228,7 @@ impl Table {
     pub fn author(&self, actor: &[u8]) -> Option<usize>
         ensures { result ≡ number (words_of self.now.texts).authors actor.now }
     {
-        self.texts.authors.get_index_of(actor)
+        self.texts.authors.number_of(actor)
     }
 
     /// What is said of the operation of the author, if there is one, with the counter.
@@ -328,13 +328,13 @@ impl Table {
     }
 
     /// An equal table.
-    pub fn copy(&self) -> Result<Table, AllocError>
+    pub fn copy(&self, alloc: Global) -> Result<Table, AllocError>
         requires { IsTable self.now }
         ensures facts { IfOk result (λ twin. facts_in twin ≡ facts_in self.now) }
         ensures table { IfOk result (λ twin. IsTable twin) }
     {
-        let authors = self.texts.authors.clone()?;
-        let names = self.texts.names.clone()?;
+        let authors = self.texts.authors.copy(alloc)?;
+        let names = self.texts.names.copy(alloc)?;
         let kept = self.kept.clone()?;
         let spans = self.spans.clone()?;
         let runs = self.runs.clone()?;

@@ -1,4 +1,4 @@
-use Rattle.std.proofs.Common.{ℕ, ◌≡◌, ◌∙◌, ◌++◌, All, Some, None, length, map, take, refl, sym, subst, ap, arith}
+use Rattle.std.proofs.Common.{ℕ, ◌≡◌, ◌∙◌, ◌++◌, All, Some, None, length, take, refl, sym, subst, ap, arith}
 use Rattle.std.proofs.lemmas.List.{take_at}
 use Rattle.am_types.specs.Operations.{operations}
 use Rattle.am_graph.specs.Reaches.{number}
@@ -44,7 +44,7 @@ join-requires-clause-new g c =
     let same = facts_equal c.args.self.now new c.requires.table (record { authors = c.in_ok-author.ensures.grows; names = λ t n e. e }) refl c.in_ok-reserve.ensures.items c.in_ok-make_room.ensures.runs in
     are_new new (table_same c.args.self.now new c.requires.table (record { authors = c.in_ok-author.ensures.grows; names = λ t n e. e }) refl c.in_ok-reserve.ensures.items c.in_ok-make_room.ensures.runs)
     (g.C.ReadChange.change c.args.change.now) c.in_ok-author.author
-    (subst (λ a. number (map (λ v. v.items) c.number.new.texts.keys) a ≡ Some c.in_ok-author.author) (c.as_slice.ensures.value ∙ c.actor.ensures) c.in_ok-author.ensures.number)
+    (subst (λ a. number c.number.new.texts a ≡ Some c.in_ok-author.author) (c.as_slice.ensures.value ∙ c.actor.ensures) c.in_ok-author.ensures.number)
     (subst (λ fs. All (λ x. fact_with fs x.id ≡ None) (operations (g.C.ReadChange.change c.args.change.now))) (sym same) c.requires.new)
 
 pub returns-in-Ok-clause-ok : goal.returns-in-Ok-clause-ok

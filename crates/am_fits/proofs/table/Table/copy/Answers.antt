@@ -1,6 +1,5 @@
 use Rattle.std.proofs.Common.{◌≡◌, map}
 use Rattle.std.proofs.lemmas.List.Elements.{same_from_all_zip}
-use Rattle.am_graph.proofs.Clocking.{names_cloned}
 use Rattle.am_fits.specs.declared.table.Table.{Table}
 use Rattle.am_fits.specs.Words.{words_of}
 use Rattle.am_fits.proofs.Places.{cloned_map}
@@ -9,8 +8,8 @@ use Rattle.am_fits.proofs.table.Table.copy.Goals as goal
 
 words : (c : goal.In_ok-runs) → words_of (record { authors = c.in_ok-authors.authors; names = c.in_ok-names.names }) ≡ words_of c.args.self.now.texts
 words c = λ j. record {
-  authors = names_cloned (λ v. v.items) _ (λ v w r. same_from_all_zip _ v.items w.items r.0 (λ x y h. h)) c.args.self.now.texts.authors.keys c.in_ok-authors.authors.keys c.in_ok-authors.ensures.cases j;
-  names = names_cloned (λ v. v.items) _ (λ v w r. same_from_all_zip _ v.items w.items r.0 (λ x y h. h)) c.args.self.now.texts.names.keys c.in_ok-names.names.keys c.in_ok-names.ensures.cases j;
+  authors = c.in_ok-authors.ensures j;
+  names = c.in_ok-names.ensures j;
 }
 
 kept : (c : goal.In_ok-runs) → c.in_ok-kept.kept.items ≡ c.args.self.now.kept.items
