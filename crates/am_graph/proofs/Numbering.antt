@@ -1,7 +1,6 @@
 -- A text that is new has the next number.
-use Rattle.std.proofs.Common.{ℕ, ◌≡◌, ◌++◌, ◌∷◌, List, [], ◌<◌, length, Bool, true, false, cond, Option, Some, None, refl, sym, ap, ◌∙◌, subst, inl, inr, ◌⊎◌, arith}
+use Rattle.std.proofs.Common.{ℕ, ◌≡◌, ◌++◌, ◌∷◌, List, [], length, cond, Option, Some, None, sym, ap, ◌∙◌, inl, inr}
 use Rattle.std.specs.BTreeMap.{insert_entry}
-use Rattle.std.specs.Map.{lookup}
 use Rattle.std.specs.Option.{option_map_or}
 use Rattle.std.proofs.lemmas.Bool.{cases_Bool, both_ways}
 use Rattle.std.proofs.lemmas.Cmp.{nat_list_eq_equiv}
@@ -10,7 +9,7 @@ use Rattle.am_types.proofs.Orders.{same_bytes-true}
 use Rattle.am_graph.specs.Reaches.{number}
 use Rattle.am_graph.specs.Numbers.{with_text, AreNumbers}
 use Rattle.am_graph.proofs.Naming.{some_or, number_more, number_back, number_last}
-use Rattle.am_graph.proofs.TextMaps.{Text, text_cmp, is_text, inserted}
+use Rattle.am_graph.proofs.TextMaps.{Text, text_cmp, inserted}
 
 none_is : (x : ℕ) → ◌≡◌ {A = Option ℕ} None (Some x) → ⊥
 none_is x e = cc

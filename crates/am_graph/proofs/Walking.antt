@@ -1,5 +1,7 @@
 -- The steps of a walk from heads: V are the places that wait, and T is the table so far.
-use Rattle.std.proofs.Common.{ℕ, zero, suc, ◌≡◌, ◌<◌, ◌≤◌, ◌==◌, ◌||◌, List, [], ◌∷◌, length, get_or, max as larger, Bool, true, false, cond, Some, refl, sym, ap, ◌∙◌, subst, inl, inr, ◌⊎◌, Contains, arith, eq-eqb}
+use Rattle.std.proofs.Common.{ℕ, zero, suc, ◌≡◌, ◌<◌, ◌≤◌, ◌==◌, ◌||◌, List, [], ◌∷◌, length, get_or, max as larger, Bool, true, false, cond, Option, Some, None, refl, sym, ap, ◌∙◌, subst, inl, inr, ◌⊎◌, Contains, arith, eq-eqb}
+use Rattle.std.specs.List.{slice_get}
+use Rattle.std.specs.Option.{option_map_or}
 use Rattle.std.proofs.lemmas.Bool.{cases_Bool, both_ways, cases_order, eqb-true}
 use Rattle.std.proofs.lemmas.List.{get_or_default}
 use Rattle.std.proofs.lemmas.List.Elements.{Contains-get_or}
@@ -8,6 +10,7 @@ use Rattle.am_types.specs.Order.{hash_cmp, among}
 use Rattle.am_types.specs.Members.{Member}
 use Rattle.am_types.specs.Ancestors.{ancestors}
 use Rattle.am_laws.proofs.Ancestry.{ancestors_named, ancestors_closed}
+use Rattle.am_graph.specs.declared.node.Node.{Node}
 use Rattle.am_graph.specs.declared.reach.Reach.{Reach}
 use Rattle.am_graph.specs.Graphs.{nodes}
 use Rattle.am_graph.specs.Reaches.{number, end, unreached, reach_at, higher, Raised, Merged, IsBelow, Attained, IsTableOf}
@@ -169,6 +172,14 @@ module _ (authors : List (List ℕ)) (C : List Member) (one : (m n : Member) →
         or_yes false y e = e
 
 -- a table with one more change
+-- without heads there is nothing to tell
+pub table_of_none : (authors : List (List ℕ)) (C : List Member) → ((m n : Member) → Contains C m → Contains C n → m.hash ≡ n.hash → m ≡ n) → IsTableOf authors (ancestors C []) []
+table_of_none authors C one = walk_ends authors C [] (λ k. false) [] (λ k. refl) (walk_starts authors C one [] (λ k. false) [] (λ k. sym (nowhere (slice_get (nodes C) k))) (λ a. refl))
+  where
+    nowhere : (o : Option (Hash × Node)) → option_map_or (λ e. among hash_cmp [] e.0) o false ≡ false
+    nowhere None = refl
+    nowhere (Some e) = refl
+
 pub joined_table : (authors : List (List ℕ)) (A : List Member) (T U : List Reach) (b : ℕ) (n : Member) → number authors n.change.actor ≡ Some b → Raised T U b (own n) → IsTableOf authors A T → IsTableOf authors (n ∷ A) U
 joined_table authors A T U b n num h t =
     let here : Contains (n ∷ A) n = (0, omega arith, refl) in

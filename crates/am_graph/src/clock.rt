@@ -13,7 +13,6 @@ ghost use Rattle.am_graph.specs.Graphs.{is_held, missing, ForSet, MatchFault};
 use crate::fault::ClockFault;
 use crate::graph::Graph;
 use crate::numbered_texts::NumberedTexts;
-use crate::places::last_place;
 use crate::reach::Reach;
 use am_types::{Hash, IdRef, Twin};
 use std::alloc::Global;
@@ -61,9 +60,7 @@ impl Graph {
         ensures held { OnOk result (All (λ h. is_held self.now h ≡ true) heads.now) }
         ensures unknown { IfErr result (λ fault. MatchFault fault (λ h. missing self.now heads.now ≡ Some h)) }
     {
-        let table = self
-            .parts
-            .table(alloc, heads, last_place(&self.parts.held))?;
+        let table = self.parts.reaches(alloc, heads)?;
         let authors = self.parts.authors.copy(alloc)?;
         Ok(Clock { authors, table })
     }
@@ -74,9 +71,7 @@ impl Graph {
         ensures held { OnOk result (All (λ h. is_held self.now h ≡ true) heads.now) }
         ensures unknown { IfErr result (λ fault. MatchFault fault (λ h. missing self.now heads.now ≡ Some h)) }
     {
-        let table = self
-            .parts
-            .table(alloc, heads, last_place(&self.parts.held))?;
+        let table = self.parts.reaches(alloc, heads)?;
         Ok(Reached {
             authors: &self.parts.authors,
             table,

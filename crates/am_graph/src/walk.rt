@@ -9,7 +9,7 @@ ghost use Rattle.am_graph.specs.Walks.{waits, is_place_of, Visits, WaitBefore};
 use crate::fault::ClockFault;
 use crate::node::Node;
 use crate::parts::Parts;
-use crate::places::place_of;
+use crate::places::{last_place, place_of};
 use crate::reach::{Reach, raise, raise_all};
 use am_types::Hash;
 use indexmap::IndexMap;
@@ -17,6 +17,20 @@ use std::alloc::{AllocError, Global};
 use std::collections::BTreeSet;
 
 impl Parts {
+    /// How far each author's changes go among the ancestors of these heads. Without heads there are none, and no table of all
+    /// authors is made.
+    pub fn reaches(&self, alloc: Global, heads: &[Hash]) -> Result<Vec<Reach>, ClockFault>
+        requires { IsWhole self.now }
+        ensures table { IfOk result (λ table. ForSet self.now.held.entries (λ C. IsTableOf (authors_of self.now) (ancestors C heads.now) table.items)) }
+        ensures held { OnOk result (All (λ h. is_held self.now.held.entries h ≡ true) heads.now) }
+        ensures unknown { IfErr result (λ fault. MatchFault fault (λ h. missing self.now.held.entries heads.now ≡ Some h)) }
+    {
+        if heads.is_empty() {
+            return Ok(Vec::new(alloc));
+        }
+        self.table(alloc, heads, last_place(&self.held))
+    }
+
     /// How far each author's changes go among the ancestors of these heads, which are looked for at the guess first.
     pub fn table(
         &self,

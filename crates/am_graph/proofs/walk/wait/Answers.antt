@@ -1,4 +1,4 @@
-use Rattle.std.proofs.Common.{◌≡◌, ◌∙◌, [], sym, true}
+use Rattle.std.proofs.Common.{◌≡◌, [], sym, true}
 use Rattle.am_graph.specs.Graphs.{is_held}
 use Rattle.am_graph.specs.Walks.{waits}
 use Rattle.am_graph.proofs.Sweeping.{find_at, within_push}

@@ -1,5 +1,5 @@
 use Rattle.std.specs.Prelude.{slice_index_or}
-use Rattle.std.proofs.Common.{◌≡◌, ◌∙◌, [], sym, subst, true, Some, None, arith}
+use Rattle.std.proofs.Common.{◌≡◌, [], sym, subst, true, Some, None, arith}
 use Rattle.am_graph.specs.Graphs.{is_held, missing}
 use Rattle.am_graph.proofs.Sweeping.{find_at, find_none_within, within_push}
 use Rattle.am_graph.proofs.graph.Graph.first_missing.Goals as goal

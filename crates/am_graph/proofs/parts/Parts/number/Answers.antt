@@ -1,4 +1,4 @@
-use Rattle.std.proofs.Common.{◌≡◌, sym, subst}
+use Rattle.std.proofs.Common.{sym, subst}
 use Rattle.am_graph.specs.Whole.{WholeOf, authors_of, first_in}
 use Rattle.am_graph.proofs.Growing.{whole_with}
 use Rattle.am_graph.proofs.parts.Parts.number.Goals as goal
