@@ -1,14 +1,16 @@
 -- Rows of a first document: what is written, and what the operations that wait will make.
-use Rattle.std.proofs.Common.{ℕ, ◌≡◌, ◌+◌, List, [], ◌∷◌, ◌++◌, Option, Some, refl, sym, ap, ◌∙◌, subst}
+use Rattle.std.proofs.Common.{ℕ, ◌≡◌, ◌+◌, List, [], ◌∷◌, ◌++◌, Option, Some, arith, false, length, refl, sym, ap, ◌∙◌, subst}
 use Rattle.std.specs.Option.{IfSome}
 use Rattle.std.proofs.lemmas.List.{append-nil}
 use Rattle.am_types.specs.declared.Row.{Row}
 use Rattle.am_types.specs.Operations.{Operation}
-use Rattle.am_merge.specs.Carrying.{CanCarry, CanPut}
-use Rattle.am_merge.specs.Naming.{AreTables}
+use Rattle.am_types.specs.Rows.{succs}
+use Rattle.am_doccols.specs.Conditions.{HasRoom, IsRowFor}
+use Rattle.am_merge.specs.Aims.{stacked_at}
+use Rattle.am_merge.specs.Carrying.{CanCarry}
 use Rattle.am_merge.specs.Plans.{Event, Put, carried}
+use Rattle.am_merge.specs.Stops.{is_some_left}
 use Rattle.am_merge.specs.Walk.{behind, new_row, spot_of, walk_out}
-use Rattle.am_merge.specs.declared.naming.Tables.{Tables}
 use Rattle.am_merge.proofs.Carried.{IsWritten, can_first, can_rest, carries_on, one_put}
 use Rattle.am_merge.proofs.Stopping.{out_comes}
 
@@ -26,10 +28,8 @@ module _ (A : List Operation) (n m : ℕ) (y : Operation) (ws vs : List Operatio
   can_go_on : (a : List (List ℕ)) (w : Option (List Row)) → CanCarry a w (walk_out A n vs) [] → CanCarry a w (here ++ later) []
   can_go_on a w h = subst (λ es. CanCarry a w es []) comes h
 
-  pub can_put : (t : Tables) (a : List (List ℕ)) (w : Option (List Row)) → AreTables A t → CanCarry a w (walk_out A n vs) [] → CanPut t a w y
-  can_put t a w tables h =
-      let one = one_put a w (new_row A y) [] (can_first a w here later [] (can_go_on a w h)) in
-      record { operations = A; tables = tables; row = one.0; room = one.1 }
+  pub can_put : (a : List (List ℕ)) (w : Option (List Row)) → CanCarry a w (walk_out A n vs) [] → IsRowFor a (new_row A y) × IfSome w (λ rows. HasRoom rows (succs A y.id))
+  can_put a w h = one_put a w (new_row A y) [] (can_first a w here later [] (can_go_on a w h))
 
   pub can_behind : (a b : List (List ℕ)) (w v : Option (List Row)) (us : List Operation) → CanCarry a w (walk_out A n vs) [] → b ≡ a
       → IsWritten w v (new_row A y ∷ []) → us ≡ behind A (spot_of y) ws → CanCarry b v (walk_out A m us) []
@@ -48,3 +48,8 @@ pub all_put : (a : List (List ℕ)) (w : Option (List Row)) (es : List Event) (t
 all_put a w es total h none whole =
     h.are_written
     ∙ ap (λ l. Some l) (sym (append-nil h.rows) ∙ subst (λ v. IfSome v (λ done. done ++ [] ≡ total)) h.are_written (subst (λ es. IfSome w (λ done. done ++ carried es [] ≡ total)) none whole))
+
+-- a stack of none has no top
+pub none_at : (A : List Operation) (ks : List ℕ) → length ks ≡ 0 → is_some_left (stacked_at A ks) ≡ false
+none_at A [] l = refl
+none_at A (k ∷ ks) l = absurd (omega arith)

@@ -44,6 +44,7 @@ pub mod NamedLaws
 pub mod Stopping
 pub mod Unnamed
 pub mod Carried
+pub mod AddedOperations
 pub mod RowsText
 pub mod Fronts
 pub mod Keys
@@ -52,3 +53,5 @@ pub mod Linked
 pub mod HasCounter
 pub mod Starting
 pub mod FirstRows
+pub mod AimLaws
+pub mod Aimed

@@ -15,6 +15,7 @@ use Rattle.am_types.specs.Operations.{Operation, operation_cmp, all_operations, 
 use Rattle.am_types.specs.ValidSets.{IsValidSet}
 use Rattle.am_types.proofs.Permuted.{operation_total}
 use Rattle.am_types.proofs.Rising.{Rises-sorted_by, sorted_by-rising}
+use Rattle.am_places.specs.Rising.{Rise}
 use Rattle.am_places.specs.Sound.{HasRoom, HaveDistinctPreds}
 use Rattle.am_places.proofs.Validity.{have_room, sound_set}
 use Rattle.am_doccols.specs.Conditions.{IsRowFor}
@@ -24,6 +25,7 @@ use Rattle.am_merge.specs.Growing.{Grows, rows_in}
 use Rattle.am_merge.specs.Laws.{operations_of}
 use Rattle.am_merge.specs.Plans.{Event, carried}
 use Rattle.am_merge.specs.Walk.{beginning, behind, is_next, spot_of, spot_of_row, walk_into, walk_out, walked}
+use Rattle.am_merge.proofs.AddedOperations.{added_few, added_rise}
 use Rattle.am_merge.proofs.ElementRows.{new_inside}
 use Rattle.am_merge.proofs.Sorts.{Contains-sorted_by, Contains-from_sorted_by}
 use Rattle.am_merge.proofs.WalkRows.{walks_rows}
@@ -119,6 +121,12 @@ module _ (C E : List Member) (actors : List (List ℕ)) (rs : List Row) (cs : Li
 
     pub are_distinct : HaveDistinctPreds D
     are_distinct = subst HaveDistinctPreds (sym are_all) distinct
+
+    pub are_rising : Rise D
+    are_rising = subst Rise (sym are_all) (added_rise C E g.larger)
+
+    pub are_few : length D ≤ 2 ^ 22
+    are_few = subst (λ D. length D ≤ 2 ^ 22) (sym are_all) (added_few C E g.larger)
 
     pub can_walk : CanCarry actors (Some []) (walked D rs 4194304 (beginning D)) rs
     can_walk = can (walked D rs 4194304 (beginning D)) (ap (λ D. walked D rs 4194304 (beginning D)) are_all)

@@ -5,24 +5,18 @@
 --     taking es             how many old rows the events es take
 --     CanCarry a w es rs    a writer that holds w, and whose places name the actors a, has room for the rows that the events es
 --                           make of the rows rs, each of which may be written; and there are enough of these
---     CanPut t a w y        a writer that holds w, and whose places name the actors a, may be given the row of the operation y,
---                           with those as successors that the tables t tell
-use Rattle.std.specs.Prelude.{◌≡◌, ℕ, ◌+◌, ◌≤◌, Bool, false, List, [], ◌∷◌, map, length, Option, Some, IfSome}
+use Rattle.std.specs.Prelude.{◌≡◌, ℕ, ◌+◌, ◌≤◌, Bool, false, List, [], ◌∷◌, map, length, Option, Some}
 use Rattle.std.specs.List.{AllByRecursion}
 use Rattle.std.specs.Ordering.{is_gt}
 use Rattle.am_types.specs.declared.OpId.{OpId}
 use Rattle.am_types.specs.declared.Row.{Row}
 use Rattle.am_types.specs.Order.{id_cmp}
-use Rattle.am_types.specs.Operations.{Operation}
-use Rattle.am_types.specs.Rows.{succs}
-use Rattle.am_doccols.specs.Conditions.{HasRoom, IsRowFor}
+use Rattle.am_doccols.specs.Conditions.{IsRowFor}
 use Rattle.am_doccols.specs.Front.{HasRoomFor}
 use Rattle.am_merge.specs.Merge.{merge}
 use Rattle.am_merge.specs.Plans.{Event, Take, Put, carried}
-use Rattle.am_merge.specs.Naming.{AreTables, named_of}
-use Rattle.am_merge.specs.Walk.{new_row}
+use Rattle.am_merge.specs.Naming.{named_of}
 use Rattle.am_merge.specs.declared.naming.Naming.{Naming}
-use Rattle.am_merge.specs.declared.naming.Tables.{Tables}
 
 abbrev pub ids_of : List Naming → List OpId
 ids_of ns = map (λ n. (named_of n).operation.id) ns
@@ -45,9 +39,3 @@ pub record CanCarry (actors : List (List ℕ)) (written : Option (List Row)) (es
   pub enough : taking es ≤ length rs
   pub fit : AllByRecursion (IsRowFor actors) (carried es rs)
   pub room : HasRoomFor rows (carried es rs)
-
-pub record CanPut (t : Tables) (actors : List (List ℕ)) (written : Option (List Row)) (y : Operation) : Type 0 where
-  pub operations : List Operation
-  pub tables : AreTables operations t
-  pub row : IsRowFor actors (new_row operations y)
-  pub room : IfSome written (λ rows. HasRoom rows (succs operations y.id))

@@ -16,5 +16,6 @@ pub mod Laws
 pub mod Grown
 pub mod Growing
 pub mod Fronts
+pub mod Aims
 pub mod Buckets
 pub mod Starts

@@ -1,14 +1,16 @@
 //! The operations of added changes, and what the walk over rows takes of them.
-ghost use Rattle.std.specs.Prelude.{◌≡◌, ◌∷◌, ◌++◌, [], All, IfOk, OnOk, filter, map};
+ghost use Rattle.std.specs.Prelude.{◌≡◌, ◌≤◌, ◌<◌, ◌^◌, ◌∷◌, ◌++◌, [], All, Contains, IfOk, OnOk, filter, length, map};
 ghost use Rattle.am_types.specs.Operations.{operations, all_operations, ascending};
 ghost use Rattle.am_places.specs.Numbered.{operation_of};
+ghost use Rattle.am_places.specs.Rising.{Rise};
 ghost use Rattle.am_places.specs.Sound.{HasRoom};
+ghost use Rattle.am_merge.specs.Aims.{stacked_at};
 ghost use Rattle.am_merge.specs.Walk.{beginning, starts};
 ghost use Rattle.am_merge.specs.Stacks.{stacked};
 
 use crate::buckets::{HasCounter, sort_by_counter};
 use crate::starts::{Start, sort_starts};
-use am_places::Numbered;
+use am_places::{Numbered, find_near};
 use am_types::actions::DELETE;
 use am_types::{Change, Key, compare_ids};
 use std::alloc::{AllocError, Global};
@@ -100,12 +102,12 @@ fn starts(x: &Numbered<'_>) -> bool
     }
 }
 
-// If it starts.
-fn push_start<'a>(all: &mut Vec<Start<'a>>, x: Numbered<'a>) -> Result<(), AllocError>
+// If it starts. It is looked for at the guess first.
+fn push_start<'a>(all: &mut Vec<Start<'a>>, x: Numbered<'a>, guess: usize) -> Result<(), AllocError>
     ensures { OnOk result (all.new.items ≡ all.old.items ++ filter starts (operation_of x.entry ∷ [])) }
 {
     if starts(&x) {
-        all.push(Start::of(x))?;
+        all.push(Start::of(x, guess))?;
         return Ok(());
     }
     Ok(())
@@ -117,7 +119,7 @@ fn starting<'a>(alloc: Global, operations: &[Numbered<'a>]) -> Result<Vec<Start<
 {
     let mut all = Vec::new(alloc);
     for i in 0..operations.len() {
-        push_start(&mut all, operations[i])?;
+        push_start(&mut all, operations[i], i)?;
     }
     Ok(all)
 }
@@ -144,4 +146,40 @@ pub fn beginning<'a>(
     let mut starts = starting(alloc, operations)?;
     sort_starts(&mut starts)?;
     stack_of(alloc, starts.as_slice())
+}
+
+// The places of these among the operations, as a stack: the first one is put last.
+fn places_of(
+    alloc: Global,
+    operations: &[Numbered<'_>],
+    starts: &[Start<'_>],
+) -> Result<Vec<u32>, AllocError>
+    requires rise { Rise (map operation_of operations.now) }
+    requires few { length operations.now ≤ 2 ^ 22 }
+    requires among { All (Contains (map operation_of operations.now)) starts.now }
+    ensures places { IfOk result (λ all. stacked_at (map operation_of operations.now) all.items ≡ starts.now) }
+    ensures within { IfOk result (λ all. All (λ k. k < length operations.now) all.items) }
+{
+    let mut all = Vec::with_capacity(alloc, starts.len())?;
+    for i in (0..starts.len()).rev() {
+        let start = &starts[i];
+        match find_near(operations, start.operation().id(), start.guess()) {
+            Some(at) => all.push(at as u32)?,
+            None => unreachable!(),
+        }
+    }
+    Ok(all)
+}
+
+/// What waits when the walk begins, by places.
+pub fn beginning_places(alloc: Global, operations: &[Numbered<'_>]) -> Result<Vec<u32>, AllocError>
+    requires ascends { ascending (map operation_of operations.now) ≡ map operation_of operations.now }
+    requires rise { Rise (map operation_of operations.now) }
+    requires few { length operations.now ≤ 2 ^ 22 }
+    ensures places { IfOk result (λ all. stacked_at (map operation_of operations.now) all.items ≡ beginning (map operation_of operations.now)) }
+    ensures within { IfOk result (λ all. All (λ k. k < length operations.now) all.items) }
+{
+    let mut starts = starting(alloc, operations)?;
+    sort_starts(&mut starts)?;
+    places_of(alloc, operations, starts.as_slice())
 }

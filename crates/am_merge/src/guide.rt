@@ -1,8 +1,7 @@
 //! Guesses of where a table has the ids with a counter.
 ghost use Rattle.std.specs.Prelude.{◌<◌};
 
-use crate::buckets::{Buckets, bucket_of, buckets_between};
-use crate::naming::Naming;
+use crate::buckets::{Buckets, HasCounter, bucket_of, buckets_between};
 use std::alloc::{AllocError, Global};
 use std::marker::Model;
 
@@ -26,7 +25,7 @@ impl Model for Guide {
 }
 
 // The buckets of a sorted table.
-fn buckets_in(table: &[Naming<'_>]) -> Buckets
+fn buckets_in<T: HasCounter>(table: &[T]) -> Buckets
     ensures width { 0 < result.width }
     ensures count { 0 < result.count }
 {
@@ -36,7 +35,7 @@ fn buckets_in(table: &[Naming<'_>]) -> Buckets
     let Some(last) = table.last() else {
         return buckets_between(0, 0, 0);
     };
-    buckets_between(first.id.counter, last.id.counter, table.len())
+    buckets_between(first.counter(), last.counter(), table.len())
 }
 
 // The buckets up to this one, as far as they have no start, start here.
@@ -50,20 +49,24 @@ fn start_up_to(starts: &mut Vec<u32>, bucket: usize, place: usize) -> Result<(),
 }
 
 // Where each bucket of a sorted table starts.
-fn starts_in(alloc: Global, table: &[Naming<'_>], buckets: Buckets) -> Result<Vec<u32>, AllocError>
+fn starts_in<T: HasCounter>(
+    alloc: Global,
+    table: &[T],
+    buckets: Buckets,
+) -> Result<Vec<u32>, AllocError>
     requires width { 0 < buckets.width }
     requires count { 0 < buckets.count }
 {
     let mut starts = Vec::new(alloc);
     for i in 0..table.len() {
-        start_up_to(&mut starts, bucket_of(buckets, table[i].id.counter), i)?;
+        start_up_to(&mut starts, bucket_of(buckets, table[i].counter()), i)?;
     }
     Ok(starts)
 }
 
 impl Guide {
     /// A guide to a sorted table.
-    pub fn of(alloc: Global, table: &[Naming<'_>]) -> Result<Guide, AllocError> {
+    pub fn of<T: HasCounter>(alloc: Global, table: &[T]) -> Result<Guide, AllocError> {
         let buckets = buckets_in(table);
         let starts = starts_in(alloc, table, buckets)?;
         Ok(Guide { buckets, starts })

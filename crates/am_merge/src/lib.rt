@@ -3,6 +3,8 @@
 
 mod actors;
 mod added;
+mod aiming;
+mod aims;
 mod buckets;
 mod carry;
 mod counters;

@@ -165,6 +165,22 @@ impl<'t, 'a> HasCounter for Mention<'t, 'a> {
     }
 }
 
+impl<'a> HasCounter for Naming<'a> {
+    ghost use Rattle.am_merge.specs.Naming.{named_cmp, named_of};
+
+    ghost counter_of = { λ n. (named_of n).id.counter };
+
+    ghost order = { λ m n. named_cmp (named_of m) (named_of n) };
+
+    fn counter(&self) -> u64 {
+        self.id.counter
+    }
+
+    fn compare(&self, other: &Self) -> Ordering {
+        compare_namings(self, other)
+    }
+}
+
 // The same, one after another.
 fn namings_of<'a>(
     alloc: Global,

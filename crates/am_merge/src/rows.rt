@@ -3,6 +3,7 @@ ghost use Rattle.std.specs.Prelude.{◌≡◌, ◌≤◌, ◌^◌, ◌++◌, [],
 ghost use Rattle.am_types.specs.Members.{Member};
 ghost use Rattle.am_types.specs.Operations.{ascending};
 ghost use Rattle.am_places.specs.Numbered.{operation_of};
+ghost use Rattle.am_places.specs.Rising.{Rise};
 ghost use Rattle.am_places.specs.Sound.{HaveDistinctPreds};
 ghost use Rattle.am_colmeta.specs.Metadata.{metadata, listing, body};
 ghost use Rattle.am_doccols.specs.Columns.{written_rows};
@@ -112,16 +113,18 @@ fn text_with<'a>(
     operations: &[Numbered<'a>],
 ) -> Result<(Bytes, Bytes), AllocError>
     requires ascends { ascending (map operation_of operations.now) ≡ (map operation_of operations.now) }
+    requires rise { Rise (map operation_of operations.now) }
+    requires few_added { length operations.now ≤ 2 ^ 22 }
     requires distinct { HaveDistinctPreds (map operation_of operations.now) }
     requires few { length rows.now ≤ 2 ^ 22 }
     requires can { CanCarry actors.now (Some []) (walked (map operation_of operations.now) rows.now 4194304 (beginning (map operation_of operations.now))) rows.now }
     ensures metadata { IfOk result (λ text. text.0 ≡ metadata (listing (written_rows actors.now (carried (walked (map operation_of operations.now) rows.now 4194304 (beginning (map operation_of operations.now))) rows.now)))) }
     ensures body { IfOk result (λ text. text.1 ≡ body (written_rows actors.now (carried (walked (map operation_of operations.now) rows.now 4194304 (beginning (map operation_of operations.now))) rows.now))) }
 {
-    let tables = tables_of(alloc, operations)?;
     if rows.left() == 0 {
-        return fresh_text(alloc, actors, operations, &tables);
+        return fresh_text(alloc, actors, operations);
     }
+    let tables = tables_of(alloc, operations)?;
     walked_text(alloc, actors, rows, operations, &tables)
 }
 

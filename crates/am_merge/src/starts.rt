@@ -39,6 +39,8 @@ const LAST_COUNTER: u64 = 1 << 61;
 #[derive(Drop)]
 pub struct Start<'a> {
     operation: Numbered<'a>,
+    /// Where the operation is looked for first. No contract speaks of it.
+    guess: u32,
     /// What mostly decides alone.
     key: u64,
     /// The front of the name at which it stands, in two halves: as one number it would stand on multiples of 16 bytes.
@@ -262,8 +264,8 @@ fn compare_starts(a: &Start<'_>, b: &Start<'_>) -> Ordering
 }
 
 impl<'a> Start<'a> {
-    /// The operation beside what decides.
-    pub fn of(x: Numbered<'a>) -> Start<'a>
+    /// The operation beside what decides, and where it is looked for first.
+    pub fn of(x: Numbered<'a>, guess: usize) -> Start<'a>
         ensures { result ≡ operation_of x.entry }
     {
         let name = name_of(&x).as_bytes();
@@ -272,6 +274,8 @@ impl<'a> Start<'a> {
         let front = front(name);
         Start {
             operation: x,
+            // (a guess needs no more bits)
+            guess: guess.min(u32::MAX as usize) as u32,
             key: key(&x.op.obj, lane, front),
             front_high: (front / HALF) as u64,
             front_low: (front % HALF) as u64,
@@ -279,6 +283,11 @@ impl<'a> Start<'a> {
             lane,
             bytes: bytes_of(name),
         }
+    }
+
+    /// Where the operation is looked for first.
+    pub fn guess(&self) -> usize {
+        self.guess as usize
     }
 
     /// The operation.

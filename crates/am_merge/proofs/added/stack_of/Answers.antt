@@ -1,5 +1,4 @@
-use Rattle.std.proofs.Common.{◌≡◌, ◌-◌, ◌∙◌, ◌∷◌, ap, arith, drop, sym}
-use Rattle.am_places.specs.Numbered.{operation_of}
+use Rattle.std.proofs.Common.{◌∙◌, ◌∷◌, ap, arith, sym}
 use Rattle.am_merge.specs.Stacks.{stacked}
 use Rattle.am_merge.proofs.Backwards.{drop_less}
 use Rattle.am_merge.proofs.Stopping.{stacked_push}

@@ -13,7 +13,12 @@ pub put_all-all-requires : goal.put_all-all-requires
 put_all-all-requires c =
     let A = map operation_of c.args.operations.now in
     record {
-      tables = c.requires.tables;
+      rise = c.requires.rise;
+      few = c.requires.few;
+      ascends = c.requires.ascends;
+      distinct = c.requires.distinct;
+      named = c.in_ok-named.ensures;
+      hung = c.in_ok-hung.ensures;
       start = c.in_ok-writer.ensures.rows;
       can = can_start c.args.actors.now c.in_ok-writer.writer.0 c.in_ok-writer.writer.1 (walk_out A 4194304 (beginning A)) [] [] c.in_ok-writer.ensures.actors c.in_ok-writer.ensures.rows refl c.requires.can;
     }

@@ -1,9 +1,10 @@
-use Rattle.std.proofs.Common.{◌∙◌, ap, map}
+use Rattle.std.proofs.Common.{◌∙◌, ap, arith, map}
+use Rattle.std.proofs.lemmas.List.{length-map}
 use Rattle.std.proofs.lemmas.Result.{IfOk-weaker}
 use Rattle.am_places.specs.Numbered.{operation_of}
 use Rattle.am_colmeta.specs.Metadata.{body, listing, metadata}
 use Rattle.am_doccols.specs.Columns.{written_rows}
-use Rattle.am_merge.proofs.RowsText.{are_distinct, ascend, can_walk, few_old, made, room_for}
+use Rattle.am_merge.proofs.RowsText.{are_distinct, are_few, are_rising, ascend, can_walk, few_old, made, room_for}
 use Rattle.am_merge.proofs.rows.rows_text.Goals as goal
 
 pub added_operations-requires : goal.added_operations-requires
@@ -15,6 +16,8 @@ text_with-requires c =
     let all = ap (map operation_of) c.as_slice.ensures.value ∙ c.in_ok-operations.ensures in
     record {
       ascends = ascend _ _ _ _ _ c.requires.2 D all;
+      rise = are_rising _ _ _ _ _ c.requires.2 D all;
+      few_added = let long = length-map c.as_slice.result.now operation_of in let few = are_few _ _ _ _ _ c.requires.2 D all in omega arith;
       distinct = are_distinct _ _ _ _ _ c.requires.2 D all;
       few = few_old _ _ _ _ _ c.requires.2;
       can = can_walk _ _ _ _ _ c.requires.2 D all;

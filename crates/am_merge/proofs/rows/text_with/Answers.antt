@@ -9,19 +9,11 @@ use Rattle.am_merge.specs.Plans.{carried}
 use Rattle.am_merge.specs.Walk.{beginning, walked}
 use Rattle.am_merge.proofs.rows.text_with.Goals as goal
 
-pub fresh_text-requires : goal.fresh_text-requires
-fresh_text-requires c =
+pub fresh_text-requires-clause-can : goal.fresh_text-requires-clause-can
+fresh_text-requires-clause-can c =
     let A = map operation_of c.args.operations.now in
     let none : c.args.rows.now ≡ [] = nil_from_length c.args.rows.now (sym c.left.ensures ∙ c.if-left-eq0.true) in
-    record {
-      tables = record {
-        named = c.in_ok-tables.ensures.named;
-        hanging_is = c.in_ok-tables.ensures.hanging_is;
-        ascends = c.requires.ascends;
-        distinct = c.requires.distinct;
-      };
-      can = subst (λ rs. CanCarry c.args.actors.now (Some []) (walked A rs 4194304 (beginning A)) rs) none c.requires.can;
-    }
+    subst (λ rs. CanCarry c.args.actors.now (Some []) (walked A rs 4194304 (beginning A)) rs) none c.requires.can
 
 pub walked_text-requires : goal.walked_text-requires
 walked_text-requires c = record {

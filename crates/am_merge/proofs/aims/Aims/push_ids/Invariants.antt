@@ -1,0 +1,18 @@
+use Rattle.std.proofs.Common.{◌≡◌, ◌≤◌, ◌<◌, ◌-◌, ◌++◌, drop, filter, get_or, length, map}
+use Rattle.am_types.specs.Views.{id_of}
+use Rattle.am_places.specs.Numbered.{operation_of}
+use Rattle.am_merge.specs.Aims.{namers, picked}
+use Rattle.am_merge.specs.Buckets.{is_in}
+use Rattle.am_merge.specs.declared.aims.Aim.{Aim}
+use Rattle.am_merge.proofs.aims.Aims.push_ids.Given as goal
+
+abbrev pub invariant-loop-next : goal.invariant-loop-next
+invariant-loop-next l = record {
+  bound : l.next ≤ length l.self.aims.items;
+  is : (d : Aim) → l.next < length l.self.aims.items → (get_or l.self.aims.items l.next d).target ≡ l.at;
+  rest : map id_of l.ids.items ++ map (λ x. x.id) (picked (map operation_of l.operations) (map (λ (a : Aim). a.place) (filter (is_in (λ (a : Aim). a.target) l.at) (drop l.next l.self.aims.items))))
+      ≡ map id_of l.fn.ids.items ++ map (λ x. x.id) (namers (map operation_of l.operations) l.self.aims.items l.at);
+}
+
+abbrev pub decreases-loop-next : goal.decreases-loop-next
+decreases-loop-next l = length l.self.aims.items - l.next
