@@ -1,9 +1,10 @@
 -- Changes that joined, with what is kept beside them.
 --     last_in lasts actor     the greatest last counter of the actor's changes, or 0
+--     has_last lasts actor    a last counter of the actor was noted, or 0
 --     IsOfSet g ix            graph and index are those of a valid set
 --     MayGrow g ix m          and m joins it
 --     AreGathered ..          graph, index and last counters are those of the entries, which are a valid set
-use Rattle.std.specs.Prelude.{◌≡◌, ℕ, List, Vec, unwrap_or}
+use Rattle.std.specs.Prelude.{◌≡◌, ℕ, List, Bool, Vec, unwrap_or, is_some}
 use Rattle.std.specs.Map.{lookup}
 use Rattle.std.specs.Global.{Global}
 use Rattle.am_types.specs.declared.Hash.{Hash}
@@ -21,6 +22,9 @@ Lasts = List (Vec ℕ Global × ℕ)
 
 abbrev pub last_in : Lasts → List ℕ → ℕ
 last_in lasts actor = unwrap_or (lookup (λ v. same_bytes actor v.items) lasts) 0
+
+abbrev pub has_last : Lasts → List ℕ → Bool
+has_last lasts actor = is_some (lookup (λ v. same_bytes actor v.items) lasts)
 
 pub record IsOfSet (g : List (Hash × Node)) (ix : Indexed) : Type 0 where
   pub set : List Member

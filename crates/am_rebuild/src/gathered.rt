@@ -2,7 +2,6 @@
 //! change that is read and nothing of what lends it.
 ghost use Rattle.std.specs.Prelude.{◌≡◌, ◌++◌, ◌∷◌, ◌<◌, ◌↔◌, [], List, IfOk, OnOk, OnErr, IsTrue, map};
 ghost use Rattle.std.specs.List.{list_all};
-ghost use Rattle.indexmap.specs.IndexMap.{spare};
 ghost use Rattle.am_types.specs.Fine.{Fine};
 ghost use Rattle.am_types.specs.Operations.{max};
 ghost use Rattle.am_types.specs.Members.{Member, holds};
@@ -12,14 +11,14 @@ ghost use Rattle.am_fits.specs.Indexes.{AreOf};
 ghost use Rattle.am_delivery.specs.Waiting.{members_of};
 ghost use Rattle.am_rebuild.specs.Gathered.{IsOfSet, MayGrow};
 
-use crate::lasts::raise;
+use crate::lasts::{make_room, raise};
 use crate::lent_change::LentChange;
 use am_delivery::joined_is_valid;
 use am_fits::{OpIndex, fits};
 use am_graph::Graph;
 use am_types::{Hash, ReadChange, Verdict, hash_known};
-use indexmap::IndexMap;
 use std::alloc::{AllocError, Global};
+use std::collections::BTreeMap;
 use std::marker::Model;
 
 /// Changes that joined one after another, as their rows lend them, each behind its own hash. Contracts see the members.
@@ -29,7 +28,7 @@ pub(crate) struct Gathered<'a> {
     pub(crate) graph: Graph,
     pub(crate) index: OpIndex,
     /// The greatest last counter of each actor's changes.
-    pub(crate) lasts: IndexMap<Vec<u8>, u64>,
+    pub(crate) lasts: BTreeMap<Vec<u8>, u64>,
 }
 
 impl<'a> Model for Gathered<'a> {
@@ -128,9 +127,8 @@ pub(crate) fn grow<'a>(
     ensures ok { OnOk result (gathered.new ≡ gathered.old ++ record { hash = hash; change = change.entry } ∷ []) }
 {
     joined_is_valid();
-    let name = Vec::from_slice(alloc, change.actor().as_slice())?;
     let last = last_of(&change);
-    gathered.lasts.reserve(1)?;
+    make_room(alloc, &mut gathered.lasts, change.actor().as_slice())?;
     gathered.entries.reserve(1)?;
     enter(
         alloc,
@@ -139,7 +137,7 @@ pub(crate) fn grow<'a>(
         hash,
         &change,
     )?;
-    raise(&mut gathered.lasts, name, last);
+    raise(&mut gathered.lasts, change.actor().as_slice(), last);
     gathered.entries.push((hash, change))?;
     Ok(())
 }

@@ -13,8 +13,8 @@ use am_change::{hash_of, is_fine};
 use am_fits::OpIndex;
 use am_graph::Graph;
 use am_types::{Hash, List};
-use indexmap::IndexMap;
 use std::alloc::{AllocError, Global};
+use std::collections::BTreeMap;
 
 impl<'a> Gathered<'a> {
     /// No changes.
@@ -25,7 +25,7 @@ impl<'a> Gathered<'a> {
             entries: Vec::new(alloc),
             graph: Graph::new(alloc),
             index: OpIndex::new(alloc),
-            lasts: IndexMap::new(alloc),
+            lasts: BTreeMap::new(alloc),
         }
     }
 
