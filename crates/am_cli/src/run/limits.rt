@@ -91,7 +91,7 @@ fn is_told(
     Ok(())
 }
 
-// Each front part of the file of one change, which has no chunk where it has no bytes.
+// The file of one change. Each front part of it is cut off but the empty one, which has no chunk.
 const WHOLE: &str =
     "856f4a83d99aa04d01200001aa0101000000061503340142025602570170027f0161017f017f13017f00";
 
