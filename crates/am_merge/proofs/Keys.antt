@@ -1,21 +1,24 @@
 -- What starts is in the order of its keys, where these differ; and numbers are in the order of their halves.
-use Rattle.std.proofs.Common.{ℕ, ◌≡◌, ◌+◌, ◌*◌, ◌/◌, ◌%◌, ◌^◌, ◌<◌, ◌≤◌, Bool, true, false, List, [], refl, sym, ap, ◌∙◌, subst, inl, inr, arith}
+use Rattle.std.proofs.Common.{ℕ, ◌≡◌, ◌+◌, ◌*◌, ◌/◌, ◌%◌, ◌^◌, ◌<◌, ◌≤◌, min, Bool, true, false, List, [], refl, sym, ap, ◌∙◌, subst, inl, inr, arith}
 use Rattle.std.proofs.Math.Nat.{div-mul-le_self}
 use Rattle.std.proofs.lemmas.Nat.{div-add-mod', div_below, le-div}
 use Rattle.std.specs.Cmp.{nat_cmp_is, ranks}
 use Rattle.std.specs.Ordering.{MatchOrdering, nat_cmp, ordering_reverse, ordering_then}
 use Rattle.std.specs.declared.cmp.Ordering.{Ordering}
 use Rattle.std.specs.declared.cmp.Ordering.TheVariants.{Less, Equal, Greater}
-use Rattle.std.proofs.lemmas.Bool.{cases_lt}
+use Rattle.std.proofs.lemmas.Bool.{both_ways, cases_lt}
+use Rattle.std.proofs.lemmas.Cmp.{tied_itself}
 use Rattle.am_types.specs.Bytes.{IsBytes}
 use Rattle.am_types.specs.declared.Key.{Key}
 use Rattle.am_types.specs.declared.Key.TheVariants.{Name, Head, Elem}
+use Rattle.am_types.specs.declared.OpId.{OpId}
 use Rattle.am_types.specs.declared.ObjId.{ObjId}
 use Rattle.am_types.specs.declared.ObjId.TheVariants.{Root, Made}
-use Rattle.am_types.specs.Order.{bytes_cmp, object_cmp}
+use Rattle.am_types.specs.Order.{bytes_cmp, id_cmp, object_cmp}
 use Rattle.am_types.specs.Operations.{Operation}
+use Rattle.am_types.proofs.Orders.{id_total}
 use Rattle.am_merge.specs.Fronts.{front_of, is_root}
-use Rattle.am_merge.specs.Starts.{by_start, key_at, start_key, turn_cmp}
+use Rattle.am_merge.specs.Starts.{actor_in, by_start, key_at, start_key, turn_cmp}
 use Rattle.am_merge.specs.Walk.{lane_of, name_in, spot_of}
 use Rattle.am_merge.proofs.Fronts.{less, lower}
 use Rattle.am_merge.proofs.HasCounter.{counter_decides}
@@ -101,6 +104,24 @@ pub tied_in_root : (x y : Operation) → IsBytes (name_in x.op.key) → IsBytes 
 tied_in_root x y bx by r h =
     tied x.op.obj y.op.obj (lane_of x.op.insert x.op.key) (lane_of y.op.insert y.op.key) (name_in x.op.key) (name_in y.op.key) (turn_cmp (spot_of x) (spot_of y))
     (lane_least x.op.insert x.op.key) bx by r h
+
+-- one key below the greatest is one counter
+one_counter : (i j : OpId) → min i.counter (2 ^ 61) ≡ min j.counter (2 ^ 61) → min i.counter (2 ^ 61) < 2 ^ 61 → i.counter ≡ j.counter
+one_counter i j h low = omega arith
+
+one_object : (o p : ObjId) (l m f g : ℕ) → is_root o ≡ false → is_root p ≡ false → start_key o l f ≡ start_key p m g → start_key o l f < 3 * 2 ^ 62 + 2 ^ 61
+    → actor_in o ≡ actor_in p → object_cmp o p ≡ Equal
+one_object Root p l m f g r s h low e = absurd (both_ways true r refl)
+one_object (Made i) Root l m f g r s h low e = absurd (both_ways true s refl)
+one_object (Made i) (Made j) l m f g r s h low e =
+    let c : i.counter ≡ j.counter = one_counter i j (omega arith) (omega arith) in
+    let same : i ≡ j = λ k. record { counter = c k; actor = e k } in
+    ap (id_cmp i) (sym same) ∙ tied_itself id_total i
+
+pub tied_in_object : (x y : Operation) → is_root x.op.obj ≡ false → is_root y.op.obj ≡ false → key_at x ≡ key_at y → key_at x < 3 * 2 ^ 62 + 2 ^ 61
+    → actor_in x.op.obj ≡ actor_in y.op.obj → object_cmp x.op.obj y.op.obj ≡ Equal
+tied_in_object x y r s h low e =
+    one_object x.op.obj y.op.obj (lane_of x.op.insert x.op.key) (lane_of y.op.insert y.op.key) (front_of (name_in x.op.key)) (front_of (name_in y.op.key)) r s h low e
 
 -- ---- numbers in two halves, compared by the upper ones and then by the lower ones
 

@@ -6,7 +6,8 @@
 --     start_key o l n       a number for what stands in the lane l of the object o, at a name with the front n: for the root
 --                           the lane and the first 62 bits of the name, and behind all these the counters of other objects
 --     key_at x              that of an operation: the lesser key comes first, and where keys are the same, they tell no order
-use Rattle.std.specs.Prelude.{ℕ, ◌+◌, ◌*◌, ◌/◌, ◌^◌, min}
+--     actor_in o            the actor of the object o; the root has none
+use Rattle.std.specs.Prelude.{ℕ, ◌+◌, ◌*◌, ◌/◌, ◌^◌, List, [], min}
 use Rattle.std.specs.Ordering.{nat_cmp, on, then_cmp}
 use Rattle.std.specs.declared.cmp.Ordering.{Ordering}
 use Rattle.am_types.specs.declared.ObjId.{ObjId}
@@ -32,3 +33,7 @@ start_key (Made i) l n = 3 * 2 ^ 62 + min i.counter (2 ^ 61)
 
 abbrev pub key_at : Operation → ℕ
 key_at x = start_key x.op.obj (lane_of x.op.insert x.op.key) (front_at x)
+
+abbrev pub actor_in : ObjId → List ℕ
+actor_in Root = []
+actor_in (Made i) = i.actor

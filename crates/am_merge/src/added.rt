@@ -103,10 +103,14 @@ fn starts(x: &Numbered<'_>) -> bool
 }
 
 // If it starts. It is looked for at the guess first.
-fn push_start<'a>(all: &mut Vec<Start<'a>>, x: Numbered<'a>, guess: usize) -> Result<(), AllocError>
-    ensures { OnOk result (all.new.items ≡ all.old.items ++ filter starts (operation_of x.entry ∷ [])) }
+fn push_start<'t, 'a>(
+    all: &mut Vec<Start<'t, 'a>>,
+    x: &'t Numbered<'a>,
+    guess: usize,
+) -> Result<(), AllocError>
+    ensures { OnOk result (all.new.items ≡ all.old.items ++ filter starts (operation_of x.now ∷ [])) }
 {
-    if starts(&x) {
+    if starts(x) {
         all.push(Start::of(x, guess))?;
         return Ok(());
     }
@@ -114,18 +118,21 @@ fn push_start<'a>(all: &mut Vec<Start<'a>>, x: Numbered<'a>, guess: usize) -> Re
 }
 
 // Those that start.
-fn starting<'a>(alloc: Global, operations: &[Numbered<'a>]) -> Result<Vec<Start<'a>>, AllocError>
+fn starting<'t, 'a>(
+    alloc: Global,
+    operations: &'t [Numbered<'a>],
+) -> Result<Vec<Start<'t, 'a>>, AllocError>
     ensures { IfOk result (λ all. all.items ≡ filter starts (map operation_of operations.now)) }
 {
     let mut all = Vec::new(alloc);
     for i in 0..operations.len() {
-        push_start(&mut all, operations[i], i)?;
+        push_start(&mut all, &operations[i], i)?;
     }
     Ok(all)
 }
 
 // The operations themselves, as a stack: the first one is put last.
-fn stack_of<'a>(alloc: Global, starts: &[Start<'a>]) -> Result<Vec<Numbered<'a>>, AllocError>
+fn stack_of<'a>(alloc: Global, starts: &[Start<'_, 'a>]) -> Result<Vec<Numbered<'a>>, AllocError>
     ensures { IfOk result (λ all. stacked all.items ≡ starts.now) }
 {
     let mut all = Vec::with_capacity(alloc, starts.len())?;
@@ -152,7 +159,7 @@ pub fn beginning<'a>(
 fn places_of(
     alloc: Global,
     operations: &[Numbered<'_>],
-    starts: &[Start<'_>],
+    starts: &[Start<'_, '_>],
 ) -> Result<Vec<u32>, AllocError>
     requires rise { Rise (map operation_of operations.now) }
     requires few { length operations.now ≤ 2 ^ 22 }

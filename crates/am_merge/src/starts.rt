@@ -5,16 +5,17 @@ ghost use Rattle.am_types.specs.Bytes.{IsBytes};
 ghost use Rattle.am_types.specs.Order.{bytes_cmp, object_cmp, sorted_by};
 ghost use Rattle.am_places.specs.Numbered.{operation_of};
 ghost use Rattle.am_merge.specs.Fronts.{front_at, is_root};
-ghost use Rattle.am_merge.specs.Starts.{by_start, key_at, start_key, start_lane_cmp, turn_cmp};
+ghost use Rattle.am_merge.specs.Starts.{actor_in, by_start, key_at, start_key, start_lane_cmp, turn_cmp};
 ghost use Rattle.am_merge.specs.Walk.{lane_of, name_in, spot_of};
 
 use crate::front::{compare_behind, front};
 use crate::spot::compare_turns_of;
 use am_places::Numbered;
-use am_types::{Key, ObjId, compare_objects, slice_known};
+use am_types::{Key, ObjId, compare_objects, same_actor, slice_known};
 use std::alloc::AllocError;
 use std::cmp::Ordering;
 use std::marker::Model;
+use std::mem::size_of;
 
 // How many bytes of a name its front has.
 const WIDTH: u8 = 16;
@@ -34,18 +35,23 @@ const LANE: u64 = 1 << 62;
 // Greater counters have one key, so that keys have room in 64 bits. No fine change has such a counter.
 const LAST_COUNTER: u64 = 1 << 61;
 
-/// An operation beside what mostly decides where it starts, so that mostly nothing else is read of it. Contracts see the
-/// operation.
+// The key of all these.
+const GREATEST_KEY: u64 = 3 * LANE + LAST_COUNTER;
+
+/// An operation, lent, beside what mostly decides where it starts, so that mostly nothing is read of it. There is one for each
+/// that starts, so it is to stay small. Contracts see the operation.
 #[derive(Drop)]
-pub struct Start<'a> {
-    operation: Numbered<'a>,
-    /// Where the operation is looked for first. No contract speaks of it.
-    guess: u32,
+pub struct Start<'t, 'a> {
+    operation: &'t Numbered<'a>,
     /// What mostly decides alone.
     key: u64,
     /// The front of the name at which it stands, in two halves: as one number it would stand on multiples of 16 bytes.
     front_high: u64,
     front_low: u64,
+    /// The actor of the object; the root has none.
+    object_actor: &'a [u8],
+    /// Where the operation is looked for first. No contract speaks of it.
+    guess: u32,
     in_root: bool,
     /// Names come first, and insertions last.
     lane: u8,
@@ -53,26 +59,29 @@ pub struct Start<'a> {
     bytes: u8,
 }
 
-impl<'a> Model for Start<'a> {
+const _: () = prove!(size_of::<Start<'static, 'static>>() <= 56);
+
+impl<'t, 'a> Model for Start<'t, 'a> {
     ghost use Rattle.std.specs.Prelude.{◌≡◌, ◌/◌, ◌%◌, ◌^◌, length, min};
     ghost use Rattle.am_types.specs.Bytes.{IsBytes};
     ghost use Rattle.am_types.specs.Operations.{Operation};
     ghost use Rattle.am_places.specs.Numbered.{operation_of};
     ghost use Rattle.am_merge.specs.Fronts.{front_at, is_root};
-    ghost use Rattle.am_merge.specs.Starts.{key_at};
+    ghost use Rattle.am_merge.specs.Starts.{actor_in, key_at};
     ghost use Rattle.am_merge.specs.Walk.{lane_of, name_in};
 
     ghost Value = { Operation };
 
-    ghost view = { λ s. operation_of s.operation };
+    ghost view = { λ s. operation_of s.operation.now };
 
-    ghost invariant = { λ s. (s.key ≡ key_at (operation_of s.operation))
-        × (s.front_high ≡ front_at (operation_of s.operation) / 2 ^ 64)
-        × (s.front_low ≡ front_at (operation_of s.operation) % 2 ^ 64)
-        × IsBytes (name_in (operation_of s.operation).op.key)
-        × (s.lane ≡ lane_of (operation_of s.operation).op.insert (operation_of s.operation).op.key)
-        × (s.in_root ≡ is_root (operation_of s.operation).op.obj)
-        × (s.bytes ≡ min (length (name_in (operation_of s.operation).op.key)) 17) };
+    ghost invariant = { λ s. (s.key ≡ key_at (operation_of s.operation.now))
+        × (s.front_high ≡ front_at (operation_of s.operation.now) / 2 ^ 64)
+        × (s.front_low ≡ front_at (operation_of s.operation.now) % 2 ^ 64)
+        × IsBytes (name_in (operation_of s.operation.now).op.key)
+        × (s.lane ≡ lane_of (operation_of s.operation.now).op.insert (operation_of s.operation.now).op.key)
+        × (s.in_root ≡ is_root (operation_of s.operation.now).op.obj)
+        × (s.bytes ≡ min (length (name_in (operation_of s.operation.now).op.key)) 17)
+        × (s.object_actor.now ≡ actor_in (operation_of s.operation.now).op.obj) };
 }
 
 // The name at which it stands.
@@ -117,6 +126,16 @@ fn is_in_root(x: &Numbered<'_>) -> bool
     }
 }
 
+// The actor of its object; the root has none.
+fn object_actor<'a>(x: &Numbered<'a>) -> &'a [u8]
+    ensures { result.now ≡ actor_in (operation_of x.now).op.obj }
+{
+    match &x.op.obj {
+        ObjId::Root => &[],
+        ObjId::Made(id) => id.actor.as_slice(),
+    }
+}
+
 // In the root: the lane, and how the name begins.
 fn key_in_root(lane: u8, front: u128) -> u64
     requires { lane ≤ 2 }
@@ -144,7 +163,7 @@ fn key(obj: &ObjId, lane: u8, front: u128) -> u64
 }
 
 // By the fronts of names, which are bytes.
-fn compare_fronts(a: &Start<'_>, b: &Start<'_>) -> Ordering
+fn compare_fronts(a: &Start<'_, '_>, b: &Start<'_, '_>) -> Ordering
     ensures order { result ≡ nat_cmp (front_at a.now) (front_at b.now) }
     ensures bytes { IsBytes (name_in a.now.op.key) × IsBytes (name_in b.now.op.key) }
 {
@@ -156,18 +175,18 @@ fn compare_fronts(a: &Start<'_>, b: &Start<'_>) -> Ordering
 }
 
 // By name, where both names have one front.
-fn compare_ends(a: &Start<'_>, b: &Start<'_>) -> Ordering
+fn compare_ends(a: &Start<'_, '_>, b: &Start<'_, '_>) -> Ordering
     requires { front_at a.now ≡ front_at b.now }
     ensures { result ≡ bytes_cmp (name_in a.now.op.key) (name_in b.now.op.key) }
 {
     if a.bytes <= WIDTH && b.bytes <= WIDTH {
         return a.bytes.cmp(&b.bytes);
     }
-    compare_behind(name_of(&a.operation), name_of(&b.operation))
+    compare_behind(name_of(a.operation), name_of(b.operation))
 }
 
 // By name.
-fn compare_names(a: &Start<'_>, b: &Start<'_>) -> Ordering
+fn compare_names(a: &Start<'_, '_>, b: &Start<'_, '_>) -> Ordering
     ensures { result ≡ bytes_cmp (name_in a.now.op.key) (name_in b.now.op.key) }
 {
     match compare_fronts(a, b) {
@@ -178,17 +197,17 @@ fn compare_names(a: &Start<'_>, b: &Start<'_>) -> Ordering
 }
 
 // By the turns of insertions, which alone are in the last lane.
-fn compare_turns(a: &Start<'_>, b: &Start<'_>) -> Ordering
+fn compare_turns(a: &Start<'_, '_>, b: &Start<'_, '_>) -> Ordering
     ensures { result ≡ turn_cmp (spot_of a.now) (spot_of b.now) }
 {
     if a.lane < INSERTIONS && b.lane < INSERTIONS {
         return Ordering::Equal;
     }
-    compare_turns_of(&a.operation, &b.operation)
+    compare_turns_of(a.operation, b.operation)
 }
 
 // Within one lane.
-fn compare_in_lane(a: &Start<'_>, b: &Start<'_>) -> Ordering
+fn compare_in_lane(a: &Start<'_, '_>, b: &Start<'_, '_>) -> Ordering
     ensures { result ≡ ordering_then (bytes_cmp (name_in a.now.op.key) (name_in b.now.op.key)) (turn_cmp (spot_of a.now) (spot_of b.now)) }
 {
     match compare_names(a, b) {
@@ -199,14 +218,14 @@ fn compare_in_lane(a: &Start<'_>, b: &Start<'_>) -> Ordering
 }
 
 // By lane.
-fn compare_lanes(a: &Start<'_>, b: &Start<'_>) -> Ordering
+fn compare_lanes(a: &Start<'_, '_>, b: &Start<'_, '_>) -> Ordering
     ensures { result ≡ nat_cmp (lane_of a.now.op.insert a.now.op.key) (lane_of b.now.op.insert b.now.op.key) }
 {
     a.lane.cmp(&b.lane)
 }
 
 // Within one object.
-fn compare_in_object(a: &Start<'_>, b: &Start<'_>) -> Ordering
+fn compare_in_object(a: &Start<'_, '_>, b: &Start<'_, '_>) -> Ordering
     ensures { result ≡ start_lane_cmp (spot_of a.now) (spot_of b.now) }
 {
     match compare_lanes(a, b) {
@@ -216,18 +235,27 @@ fn compare_in_object(a: &Start<'_>, b: &Start<'_>) -> Ordering
     }
 }
 
-// By object.
-fn compare_objects_of(a: &Start<'_>, b: &Start<'_>) -> Ordering
+// By object. A key below the greatest tells the counter: where the actors are the same too, neither operation is read.
+fn compare_objects_of(a: &Start<'_, '_>, b: &Start<'_, '_>) -> Ordering
+    requires { key_at a.now ≡ key_at b.now }
     ensures { result ≡ object_cmp a.now.op.obj b.now.op.obj }
 {
     if a.in_root && b.in_root {
+        return Ordering::Equal;
+    }
+    if !a.in_root
+        && !b.in_root
+        && a.key < GREATEST_KEY
+        && same_actor(a.object_actor, b.object_actor)
+    {
         return Ordering::Equal;
     }
     compare_objects(a.operation.op.obj.lend(), b.operation.op.obj.lend())
 }
 
 // Part by part.
-fn compare_parts(a: &Start<'_>, b: &Start<'_>) -> Ordering
+fn compare_parts(a: &Start<'_, '_>, b: &Start<'_, '_>) -> Ordering
+    requires { key_at a.now ≡ key_at b.now }
     ensures { result ≡ by_start a.now b.now }
 {
     match compare_objects_of(a, b) {
@@ -239,7 +267,7 @@ fn compare_parts(a: &Start<'_>, b: &Start<'_>) -> Ordering
 
 // Two with one key: in the root they are in one lane. It is kept apart, so that what the keys decide takes few steps.
 #[inline(never)]
-fn compare_tied(a: &Start<'_>, b: &Start<'_>) -> Ordering
+fn compare_tied(a: &Start<'_, '_>, b: &Start<'_, '_>) -> Ordering
     requires key { key_at a.now ≡ key_at b.now }
     requires bytes { IsBytes (name_in a.now.op.key) × IsBytes (name_in b.now.op.key) }
     ensures { result ≡ by_start a.now b.now }
@@ -251,7 +279,7 @@ fn compare_tied(a: &Start<'_>, b: &Start<'_>) -> Ordering
 }
 
 // The order of the walk, where what stands at one name is given in order: mostly by the keys alone.
-fn compare_starts(a: &Start<'_>, b: &Start<'_>) -> Ordering
+fn compare_starts(a: &Start<'_, '_>, b: &Start<'_, '_>) -> Ordering
     ensures { result ≡ by_start a.now b.now }
 {
     if a.key < b.key {
@@ -263,14 +291,14 @@ fn compare_starts(a: &Start<'_>, b: &Start<'_>) -> Ordering
     compare_tied(a, b)
 }
 
-impl<'a> Start<'a> {
+impl<'t, 'a> Start<'t, 'a> {
     /// The operation beside what decides, and where it is looked for first.
-    pub fn of(x: Numbered<'a>, guess: usize) -> Start<'a>
-        ensures { result ≡ operation_of x.entry }
+    pub fn of(x: &'t Numbered<'a>, guess: usize) -> Start<'t, 'a>
+        ensures { result ≡ operation_of x.now }
     {
-        let name = name_of(&x).as_bytes();
+        let name = name_of(x).as_bytes();
         slice_known(name);
-        let lane = lane(&x);
+        let lane = lane(x);
         let front = front(name);
         Start {
             operation: x,
@@ -279,7 +307,8 @@ impl<'a> Start<'a> {
             key: key(&x.op.obj, lane, front),
             front_high: (front / HALF) as u64,
             front_low: (front % HALF) as u64,
-            in_root: is_in_root(&x),
+            object_actor: object_actor(x),
+            in_root: is_in_root(x),
             lane,
             bytes: bytes_of(name),
         }
@@ -294,16 +323,16 @@ impl<'a> Start<'a> {
     pub fn operation(&self) -> Numbered<'a>
         ensures { operation_of result ≡ self.now }
     {
-        self.operation
+        *self.operation
     }
 }
 
 /// Sorts them by where they start. What ties stays in order: so those given in ascending id stand in the order of the walk.
-pub fn sort_starts(all: &mut Vec<Start<'_>>) -> Result<(), AllocError>
+pub fn sort_starts(all: &mut Vec<Start<'_, '_>>) -> Result<(), AllocError>
     ensures { OnOk result (all.new.items ≡ sorted_by by_start all.old.items) }
 {
     all.sort_by(
-        |a: &Start<'_>, b: &Start<'_>| -> Ordering
+        |a: &Start<'_, '_>, b: &Start<'_, '_>| -> Ordering
             ensures { result ≡ by_start a.now b.now }
         { compare_starts(a, b) },
     )?;
