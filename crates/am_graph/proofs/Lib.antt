@@ -11,6 +11,7 @@ pub mod Growing
 pub mod Guessing
 pub mod Naming
 pub mod TextMaps
+pub mod TextKeys
 pub mod Numbering
 pub mod Ranking
 pub mod Descent

@@ -8,10 +8,10 @@ use Rattle.std.proofs.lemmas.Map.Views.{tells_apart}
 use Rattle.am_types.specs.declared.Hash.{Hash}
 use Rattle.am_graph.specs.Whole.{pair_cmp, Notes, Forgets, lesser}
 
-same_pair : (p q : ℕ × ℕ) → is_eq (pair_cmp p q) ≡ true → p ≡ q
+pub same_pair : (p q : ℕ × ℕ) → is_eq (pair_cmp p q) ≡ true → p ≡ q
 same_pair = tells_apart (exact_pairs nat_cmp nat_cmp exact_unsigned exact_unsigned)
 
-pair_itself : (p : ℕ × ℕ) → is_eq (pair_cmp p p) ≡ true
+pub pair_itself : (p : ℕ × ℕ) → is_eq (pair_cmp p p) ≡ true
 pair_itself p = ap is_eq (tied_itself (then_total (on_total (λ (p : ℕ × ℕ). p.0) nat_cmp_total) (on_total (λ (p : ℕ × ℕ). p.1) nat_cmp_total)) p)
 
 apart : (a q b r : ℕ) → (b == a && r == q) ≡ false → is_eq (pair_cmp (a, q) (b, r)) ≡ false

@@ -1,15 +1,19 @@
 -- A text that is new has the next number.
-use Rattle.std.proofs.Common.{ℕ, ◌≡◌, ◌++◌, ◌∷◌, List, [], length, cond, Option, Some, None, sym, ap, ◌∙◌, inl, inr}
-use Rattle.std.specs.BTreeMap.{insert_entry}
+use Rattle.std.proofs.Common.{ℕ, ◌≡◌, ◌<◌, ◌≤◌, ◌++◌, ◌∷◌, List, [], length, false, cond, Option, Some, None, sym, ap, ◌∙◌, inl, inr, arith}
+use Rattle.std.specs.BTreeMap.{BTreeMap, get, insert_entry, is_at}
+use Rattle.std.specs.Map.{lookup}
 use Rattle.std.specs.Option.{option_map_or}
+use Rattle.std.specs.Ordering.{is_eq}
 use Rattle.std.proofs.lemmas.Bool.{cases_Bool, both_ways}
 use Rattle.std.proofs.lemmas.Cmp.{nat_list_eq_equiv}
+use Rattle.am_types.specs.Bytes.{IsBytes}
 use Rattle.am_types.specs.Same.{same_bytes}
 use Rattle.am_types.proofs.Orders.{same_bytes-true}
 use Rattle.am_graph.specs.Reaches.{number}
-use Rattle.am_graph.specs.Numbers.{with_text, AreNumbers}
+use Rattle.am_graph.specs.Numbers.{with_text, key_of, key_cmp, Tells, AreNumbers}
 use Rattle.am_graph.proofs.Naming.{some_or, number_more, number_back, number_last}
-use Rattle.am_graph.proofs.TextMaps.{Text, text_cmp, inserted}
+use Rattle.am_graph.proofs.TextKeys.{keys_tell}
+use Rattle.am_graph.proofs.TextMaps.{Text, text_cmp, is_text, inserted}
 
 none_is : (x : ℕ) → ◌≡◌ {A = Option ℕ} None (Some x) → ⊥
 none_is x e = cc
@@ -32,11 +36,50 @@ number_pushed ts y new t = elim (cases_Bool (same_bytes t y)) [
   ]
 ]
 
--- the entries with the new text tell the new numbers
-pub numbers_pushed : (ts : List (List ℕ)) (es : List (Text × ℕ)) (k : Text) (y : List ℕ) (n : ℕ) → AreNumbers ts es → number ts y ≡ None → k.items ≡ y → n ≡ length ts → AreNumbers (ts ++ y ∷ []) (insert_entry text_cmp es k n)
-numbers_pushed ts es k y n are new key size = record {
-  told = λ t.
-      inserted es k n t ∙ (λ i. cond (same_bytes t (key i)) (Some (size i)) (are.told t i)) ∙ sym (number_pushed ts y new t);
+-- texts of other lengths are others
+longer : (t y : List ℕ) → length y ≤ 16 → 16 < length t → same_bytes t y ≡ false
+longer t y few many = elim (cases_Bool (same_bytes t y)) [
+  | inl s ↦ let e : length t ≡ length y = ap length (same_bytes-true t y s) in absurd (omega arith)
+  | inr s ↦ s
+]
+
+shorter : (t y : List ℕ) → 16 < length y → length t ≤ 16 → same_bytes t y ≡ false
+shorter t y many few = elim (cases_Bool (same_bytes t y)) [
+  | inl s ↦ let e : length t ≡ length y = ap length (same_bytes-true t y s) in absurd (omega arith)
+  | inr s ↦ s
+]
+
+-- a short text is noted at its key
+pub noted_short : (s1 s2 : BTreeMap (ℕ × ℕ) ℕ) (l : BTreeMap Text ℕ) (y : List ℕ) (n : ℕ) (f : List ℕ → Option ℕ) → IsBytes y → length y ≤ 16 → ((k : ℕ × ℕ) → get key_cmp s2 k ≡ cond (is_eq (key_cmp (key_of y) k)) (Some n) (get key_cmp s1 k)) → Tells s1 l f → Tells s2 l (λ t. cond (same_bytes t y) (Some n) (f t))
+noted_short s1 s2 l y n f bytes few updates tells = record {
+  few = λ t b p. updates (key_of t) ∙ (λ i. cond (keys_tell t y b bytes i) (Some n) (tells.few t b p i));
+  many = λ t p. tells.many t p ∙ sym (ap (λ b. cond b (Some n) (f t)) (longer t y few p));
+}
+
+-- a longer one at its bytes
+pub noted_long : (s : BTreeMap (ℕ × ℕ) ℕ) (l1 l2 : BTreeMap Text ℕ) (k : Text) (y : List ℕ) (n : ℕ) (f : List ℕ → Option ℕ) → k.items ≡ y → 16 < length y → l2.entries ≡ insert_entry text_cmp l1.entries k n → Tells s l1 f → Tells s l2 (λ t. cond (same_bytes t y) (Some n) (f t))
+noted_long s l1 l2 k y n f key many entries tells = record {
+  few = λ t b p. tells.few t b p ∙ sym (ap (λ b. cond b (Some n) (f t)) (shorter t y many p));
+  many = λ t p. ap (lookup (is_text t)) entries ∙ inserted l1.entries k n t ∙ (λ i. cond (same_bytes t (key i)) (Some n) (tells.many t p i));
+}
+
+-- the maps in which the new text is noted tell the new numbers
+pub numbers_pushed : (ts : List (List ℕ)) (s1 s2 : BTreeMap (ℕ × ℕ) ℕ) (l1 l2 : BTreeMap Text ℕ) (y : List ℕ) (n : ℕ) → AreNumbers ts s1 l1 → number ts y ≡ None → n ≡ length ts → ((f : List ℕ → Option ℕ) → Tells s1 l1 f → Tells s2 l2 (λ t. cond (same_bytes t y) (Some n) (f t))) → AreNumbers (ts ++ y ∷ []) s2 l2
+numbers_pushed ts s1 s2 l1 l2 y n are new size notes =
+    let noted = notes (number ts) are in
+    record {
+      few = λ t b p. noted.few t b p ∙ pushed t;
+      many = λ t p. noted.many t p ∙ pushed t;
+    }
+  where
+    pushed : (t : List ℕ) → cond (same_bytes t y) (Some n) (number ts t) ≡ number (ts ++ y ∷ []) t
+    pushed t = (λ i. cond (same_bytes t y) (Some (size i)) (number ts t)) ∙ sym (number_pushed ts y new t)
+
+-- maps with the same entries tell the same
+pub same_maps : (s1 s2 : BTreeMap (ℕ × ℕ) ℕ) (l1 l2 : BTreeMap Text ℕ) (f : List ℕ → Option ℕ) → s2.entries ≡ s1.entries → ((t : List ℕ) → lookup (is_text t) l2.entries ≡ lookup (is_text t) l1.entries) → Tells s1 l1 f → Tells s2 l2 f
+same_maps s1 s2 l1 l2 f short long tells = record {
+  few = λ t b p. ap (lookup (is_at (key_cmp (key_of t)))) short ∙ tells.few t b p;
+  many = λ t p. long t ∙ tells.many t p;
 }
 
 -- a text that is new comes behind the others, and one that isn't changes nothing

@@ -15,6 +15,7 @@ mod parts;
 mod place;
 mod places;
 mod reach;
+mod text_key;
 mod walk;
 
 pub use clock::{Clock, Reached, covers_ancestors_alone};

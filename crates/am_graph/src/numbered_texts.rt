@@ -1,19 +1,24 @@
 //! Texts that are kept once, each with its place of coming as its number.
-ghost use Rattle.std.specs.Prelude.{◌≡◌, [], IfOk, OnOk, OnErr, Some, length, slice_get, option_map};
-ghost use Rattle.am_graph.specs.Numbers.{with_text};
+ghost use Rattle.std.specs.Prelude.{List, Option, ℕ, ◌≡◌, [], IfOk, OnOk, OnErr, Some, cond, length, slice_get, option_map};
+ghost use Rattle.std.specs.BTreeMap.{IsUnchanged};
+ghost use Rattle.am_types.specs.Same.{same_bytes};
+ghost use Rattle.am_graph.specs.Numbers.{with_text, Tells};
 ghost use Rattle.am_graph.specs.Reaches.{number};
 
-use am_types::Twin;
+use crate::text_key::{SHORT, key_of};
+use am_types::{Twin, slice_known};
 use std::alloc::{AllocError, Global};
 use std::collections::BTreeMap;
 use std::marker::Model;
 
 /// Texts that are kept once, each with its place of coming as its number, from 0. A text is looked up in an ordered map, so
-/// that nobody who picks the texts makes look-ups slow. Contracts see the list of the texts.
+/// that nobody who picks the texts makes look-ups slow: a short one by a number of its bytes, a longer one by the bytes.
+/// Contracts see the list of the texts.
 #[derive(Drop)]
 pub struct NumberedTexts {
     texts: Vec<Vec<u8>>,
-    numbers: BTreeMap<Vec<u8>, usize>,
+    short: BTreeMap<(u128, usize), usize>,
+    long: BTreeMap<Vec<u8>, usize>,
 }
 
 impl Model for NumberedTexts {
@@ -24,7 +29,7 @@ impl Model for NumberedTexts {
 
     ghost view = { λ n. map (λ v. v.items) n.texts.items };
 
-    ghost invariant = { λ n. AreNumbers (map (λ v. v.items) n.texts.items) n.numbers.entries };
+    ghost invariant = { λ n. AreNumbers (map (λ v. v.items) n.texts.items) n.short n.long };
 }
 
 impl NumberedTexts {
@@ -34,7 +39,8 @@ impl NumberedTexts {
     {
         NumberedTexts {
             texts: Vec::new(alloc),
-            numbers: BTreeMap::new(alloc),
+            short: BTreeMap::new(alloc),
+            long: BTreeMap::new(alloc),
         }
     }
 
@@ -49,7 +55,11 @@ impl NumberedTexts {
     pub fn number_of(&self, text: &[u8]) -> Option<usize>
         ensures { result ≡ number self.now text.now }
     {
-        self.numbers.get(text).copied()
+        slice_known(text);
+        if text.len() <= SHORT {
+            return self.short.get(&key_of(text)).copied();
+        }
+        self.long.get(text).copied()
     }
 
     /// The text with this number.
@@ -71,20 +81,41 @@ impl NumberedTexts {
         if let Some(number) = self.number_of(text) {
             return Ok(number);
         }
-        let key = Vec::from_slice(alloc, text)?;
         let kept = Vec::from_slice(alloc, text)?;
         self.texts.reserve(1)?;
         let number = self.texts.len();
-        self.numbers.insert(key, number)?;
+        note(&mut self.short, &mut self.long, alloc, text, number)?;
         self.texts.push_reserved(kept);
         Ok(number)
     }
 }
 
+/// Notes the number of a text, in the map for texts of its length.
+fn note(
+    short: &mut BTreeMap<(u128, usize), usize>,
+    long: &mut BTreeMap<Vec<u8>, usize>,
+    alloc: Global,
+    text: &[u8],
+    number: usize,
+) -> Result<(), AllocError>
+    ensures ok { OnOk result ((f : List ℕ → Option ℕ) → Tells short.old long.old f → Tells short.new long.new (λ t. cond (same_bytes t text.now) (Some number) (f t))) }
+    ensures err { OnErr result (IsUnchanged short.old short.new × IsUnchanged long.old long.new) }
+{
+    slice_known(text);
+    if text.len() <= SHORT {
+        short.insert(key_of(text), number)?;
+        return Ok(());
+    }
+    let key = Vec::from_slice(alloc, text)?;
+    long.insert(key, number)?;
+    Ok(())
+}
+
 impl Twin for NumberedTexts {
     fn copy(&self, _alloc: Global) -> Result<NumberedTexts, AllocError> {
         let texts = self.texts.clone()?;
-        let numbers = self.numbers.clone()?;
-        Ok(NumberedTexts { texts, numbers })
+        let short = self.short.clone()?;
+        let long = self.long.clone()?;
+        Ok(NumberedTexts { texts, short, long })
     }
 }

@@ -28,9 +28,8 @@ size c =
 
 pub invariant_of-self-2 : goal.invariant_of-self-2
 invariant_of-self-2 c =
-    subst (λ ts. AreNumbers ts c.insert.new.self.entries) (sym (texts c))
-    (subst (AreNumbers (old c ++ c.args.text.now ∷ [])) (sym c.in_ok-insert.ensures.entries)
-    (numbers_pushed (old c) c.self.inside.numbers.entries c.in_ok-key.key c.args.text.now c.len-number.result c.self.invariant (new c) c.in_ok-key.ensures.items (size c)))
+    subst (λ ts. AreNumbers ts c.note.new.short c.note.new.long) (sym (texts c))
+    (numbers_pushed (old c) c.self.inside.short c.note.new.short c.self.inside.long c.note.new.long c.args.text.now c.len-number.result c.self.invariant (new c) (size c) c.in_ok-note.ensures.ok)
 
 pub returns-clause-number : goal.returns-clause-number
 returns-clause-number c = ap (λ ts. number ts c.args.text.now) (texts c) ∙ number_last (old c) c.args.text.now (new c) (nat_list_eq_equiv.refl c.args.text.now) ∙ ap Some (sym (size c))
