@@ -1,16 +1,19 @@
 -- A text that is new has the next number.
-use Rattle.std.proofs.Common.{ℕ, ◌≡◌, ◌<◌, ◌≤◌, ◌++◌, ◌∷◌, List, [], length, false, cond, Option, Some, None, sym, ap, ◌∙◌, inl, inr, arith}
+use Rattle.std.proofs.Common.{map, slice_get, refl, ℕ, ◌≡◌, ◌<◌, ◌≤◌, ◌++◌, ◌∷◌, List, [], length, get_or, ◌+◌, false, cond, Option, Some, None, sym, ap, ◌∙◌, inl, inr, arith}
+use Rattle.std.proofs.Math.ListN.{get_or-map}
+use Rattle.std.proofs.lemmas.List.{get_or_append_left, get_or_push, length-append, length-map}
+use Rattle.std.proofs.lemmas.Option.{slice_get_read}
 use Rattle.std.specs.BTreeMap.{BTreeMap, get, insert_entry, is_at}
 use Rattle.std.specs.Map.{lookup}
 use Rattle.std.specs.Option.{option_map_or}
 use Rattle.std.specs.Ordering.{is_eq}
-use Rattle.std.proofs.lemmas.Bool.{cases_Bool, both_ways}
+use Rattle.std.proofs.lemmas.Bool.{cases_Bool, cases_lt, both_ways}
 use Rattle.std.proofs.lemmas.Cmp.{nat_list_eq_equiv}
 use Rattle.am_types.specs.Bytes.{IsBytes}
 use Rattle.am_types.specs.Same.{same_bytes}
 use Rattle.am_types.proofs.Orders.{same_bytes-true}
 use Rattle.am_graph.specs.Reaches.{number}
-use Rattle.am_graph.specs.Numbers.{with_text, key_of, key_cmp, Tells, AreNumbers}
+use Rattle.am_graph.specs.Numbers.{with_text, key_of, key_cmp, Tells, AreNumbers, AreOnce}
 use Rattle.am_graph.proofs.Naming.{some_or, number_more, number_back, number_last}
 use Rattle.am_graph.proofs.TextKeys.{keys_tell}
 use Rattle.am_graph.proofs.TextMaps.{Text, text_cmp, is_text, inserted}
@@ -63,13 +66,42 @@ noted_long s l1 l2 k y n f key many entries tells = record {
   many = λ t p. ap (lookup (is_text t)) entries ∙ inserted l1.entries k n t ∙ (λ i. cond (same_bytes t (key i)) (Some n) (tells.many t p i));
 }
 
+-- the new text is there once
+once_pushed : (ts : List (List ℕ)) (y : List ℕ) → AreOnce ts → number ts y ≡ None → AreOnce (ts ++ y ∷ [])
+once_pushed ts y once new n t low at = elim (cases_lt n (length ts)) [
+  | inl l ↦ number_more ts y t n (once n t l (sym (get_or_append_left ts (y ∷ []) t n l) ∙ at))
+  | inr g ↦ (
+      let long : length (ts ++ y ∷ []) ≡ length ts + 1 = length-append ts (y ∷ []) in
+      let last : n ≡ length ts = omega (arith, long, low, g) in
+      let same : y ≡ t = sym (get_or_push ts y t (length ts) refl) ∙ ap (λ k. get_or (ts ++ y ∷ []) k t) (sym last) ∙ at in
+      ap (number (ts ++ y ∷ [])) (sym same) ∙ number_last ts y new (nat_list_eq_equiv.refl y) ∙ ap Some (sym last))
+]
+
+-- the text at a place
+abbrev items : Text → List ℕ
+items v = v.items
+
+read_at : (vs : List Text) (n : ℕ) (v : Text) → ((d : Text) → v ≡ get_or vs n d) → get_or (map items vs) n v.items ≡ v.items
+read_at vs n v is = get_or-map items vs n v ∙ ap items (sym (is v))
+
+pub kept_at : (vs : List Text) (n : ℕ) (v : Text) (t : List ℕ) → AreOnce (map items vs) → n < length vs → ((d : Text) → v ≡ get_or vs n d) → v.items ≡ t → number (map items vs) t ≡ Some n
+kept_at vs n v t once low is e =
+    let long = length-map vs items in
+    ap (number (map items vs)) (sym e) ∙ once n v.items (omega (arith, long, low)) (read_at vs n v is)
+
+pub text_at : (vs : List Text) (n : ℕ) (v : Text) → n < length vs → ((d : Text) → v ≡ get_or vs n d) → slice_get (map items vs) n ≡ Some v.items
+text_at vs n v low is = slice_get_read (map items vs) (length vs) n v.items (sym (length-map vs items)) low (sym (read_at vs n v is))
+
 -- the maps in which the new text is noted tell the new numbers
 pub numbers_pushed : (ts : List (List ℕ)) (s1 s2 : BTreeMap (ℕ × ℕ) ℕ) (l1 l2 : BTreeMap Text ℕ) (y : List ℕ) (n : ℕ) → AreNumbers ts s1 l1 → number ts y ≡ None → n ≡ length ts → ((f : List ℕ → Option ℕ) → Tells s1 l1 f → Tells s2 l2 (λ t. cond (same_bytes t y) (Some n) (f t))) → AreNumbers (ts ++ y ∷ []) s2 l2
 numbers_pushed ts s1 s2 l1 l2 y n are new size notes =
-    let noted = notes (number ts) are in
+    let noted = notes (number ts) are.told in
     record {
-      few = λ t b p. noted.few t b p ∙ pushed t;
-      many = λ t p. noted.many t p ∙ pushed t;
+      told = record {
+        few = λ t b p. noted.few t b p ∙ pushed t;
+        many = λ t p. noted.many t p ∙ pushed t;
+      };
+      once = once_pushed ts y are.once new;
     }
   where
     pushed : (t : List ℕ) → cond (same_bytes t y) (Some n) (number ts t) ≡ number (ts ++ y ∷ []) t

@@ -5,8 +5,9 @@
 --     key_cmp k l                the order of two such keys
 --     Tells short long f         of each text of at most 16 bytes the map short tells what f says of it, by its key, and of each
 --                                longer one the map long does, by its bytes
---     AreNumbers ts short long   the maps tell the number of each text
-use Rattle.std.specs.Prelude.{ℕ, ◌≡◌, ◌<◌, ◌≤◌, ◌+◌, ◌*◌, List, [], ◌∷◌, ◌++◌, length, Option, Vec}
+--     AreOnce ts                 each of the texts has its place as its number: it is there once
+--     AreNumbers ts short long   the texts are there once, and the maps tell their numbers
+use Rattle.std.specs.Prelude.{ℕ, ◌≡◌, ◌<◌, ◌≤◌, ◌+◌, ◌*◌, List, [], ◌∷◌, ◌++◌, length, get_or, Option, Some, Vec}
 use Rattle.std.specs.BTreeMap.{BTreeMap, get}
 use Rattle.std.specs.Global.{Global}
 use Rattle.std.specs.Map.{lookup}
@@ -34,5 +35,9 @@ pub record Tells (short : BTreeMap (ℕ × ℕ) ℕ) (long : BTreeMap (Vec ℕ G
   pub few : (t : List ℕ) → IsBytes t → length t ≤ 16 → get key_cmp short (key_of t) ≡ f t
   pub many : (t : List ℕ) → 16 < length t → lookup (λ v. same_bytes t v.items) long.entries ≡ f t
 
-abbrev pub AreNumbers : List (List ℕ) → BTreeMap (ℕ × ℕ) ℕ → BTreeMap (Vec ℕ Global) ℕ → Type 0
-AreNumbers ts short long = Tells short long (number ts)
+abbrev pub AreOnce : List (List ℕ) → Type 0
+AreOnce ts = (n : ℕ) (t : List ℕ) → n < length ts → get_or ts n t ≡ t → number ts t ≡ Some n
+
+pub record AreNumbers (ts : List (List ℕ)) (short : BTreeMap (ℕ × ℕ) ℕ) (long : BTreeMap (Vec ℕ Global) ℕ) : Type 0 where
+  pub told : Tells short long (number ts)
+  pub once : AreOnce ts

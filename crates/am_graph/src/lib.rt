@@ -9,6 +9,7 @@ mod fault;
 mod find;
 mod graph;
 mod heads;
+mod hints;
 mod node;
 mod numbered_texts;
 mod parts;

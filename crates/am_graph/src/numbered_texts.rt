@@ -1,10 +1,11 @@
 //! Texts that are kept once, each with its place of coming as its number.
-ghost use Rattle.std.specs.Prelude.{List, Option, ℕ, ◌≡◌, [], IfOk, OnOk, OnErr, Some, cond, length, slice_get, option_map};
+ghost use Rattle.std.specs.Prelude.{List, Option, ℕ, ◌≡◌, [], IfOk, OnOk, OnErr, Some, IfSome, cond, length, slice_get, option_map};
 ghost use Rattle.std.specs.BTreeMap.{IsUnchanged};
 ghost use Rattle.am_types.specs.Same.{same_bytes};
 ghost use Rattle.am_graph.specs.Numbers.{with_text, Tells};
 ghost use Rattle.am_graph.specs.Reaches.{number};
 
+use crate::hints::Hints;
 use crate::text_key::{SHORT, key_of};
 use am_types::{Twin, slice_known};
 use std::alloc::{AllocError, Global};
@@ -12,13 +13,14 @@ use std::collections::BTreeMap;
 use std::marker::Model;
 
 /// Texts that are kept once, each with its place of coming as its number, from 0. A text is looked up in an ordered map, so
-/// that nobody who picks the texts makes look-ups slow: a short one by a number of its bytes, a longer one by the bytes.
-/// Contracts see the list of the texts.
+/// that nobody who picks the texts makes look-ups slow: a short one by a number of its bytes, a longer one by the bytes. One
+/// that comes again mostly takes no such look-up, since a hint tells it. Contracts see the list of the texts.
 #[derive(Drop)]
 pub struct NumberedTexts {
     texts: Vec<Vec<u8>>,
     short: BTreeMap<(u128, usize), usize>,
     long: BTreeMap<Vec<u8>, usize>,
+    hints: Hints,
 }
 
 impl Model for NumberedTexts {
@@ -41,6 +43,7 @@ impl NumberedTexts {
             texts: Vec::new(alloc),
             short: BTreeMap::new(alloc),
             long: BTreeMap::new(alloc),
+            hints: Hints::none(alloc),
         }
     }
 
@@ -51,8 +54,32 @@ impl NumberedTexts {
         self.texts.len()
     }
 
+    /// The number of the text, if a hint tells it.
+    fn hinted(&self, text: &[u8]) -> Option<usize>
+        ensures { IfSome result (λ n. number self.now text.now ≡ Some n) }
+    {
+        let hint = self.hints.of(text);
+        let Some(kept) = self.texts.get(hint) else {
+            return None;
+        };
+        if kept.as_slice() == text {
+            return Some(hint);
+        }
+        None
+    }
+
     /// The number of the text, if it is kept.
     pub fn number_of(&self, text: &[u8]) -> Option<usize>
+        ensures { result ≡ number self.now text.now }
+    {
+        if let Some(number) = self.hinted(text) {
+            return Some(number);
+        }
+        self.sought(text)
+    }
+
+    /// The same by the maps.
+    fn sought(&self, text: &[u8]) -> Option<usize>
         ensures { result ≡ number self.now text.now }
     {
         slice_known(text);
@@ -78,13 +105,18 @@ impl NumberedTexts {
         ensures number { IfOk result (λ n. number self.new text.now ≡ Some n) }
         ensures err { OnErr result (self.new ≡ self.old) }
     {
-        if let Some(number) = self.number_of(text) {
+        if let Some(number) = self.hinted(text) {
+            return Ok(number);
+        }
+        if let Some(number) = self.sought(text) {
+            self.hints.remember(alloc, text, number);
             return Ok(number);
         }
         let kept = Vec::from_slice(alloc, text)?;
         self.texts.reserve(1)?;
         let number = self.texts.len();
         note(&mut self.short, &mut self.long, alloc, text, number)?;
+        self.hints.remember(alloc, text, number);
         self.texts.push_reserved(kept);
         Ok(number)
     }
@@ -112,10 +144,16 @@ fn note(
 }
 
 impl Twin for NumberedTexts {
-    fn copy(&self, _alloc: Global) -> Result<NumberedTexts, AllocError> {
+    fn copy(&self, alloc: Global) -> Result<NumberedTexts, AllocError> {
+        let hints = Hints::none(alloc);
         let texts = self.texts.clone()?;
         let short = self.short.clone()?;
         let long = self.long.clone()?;
-        Ok(NumberedTexts { texts, short, long })
+        Ok(NumberedTexts {
+            texts,
+            short,
+            long,
+            hints,
+        })
     }
 }

@@ -12,7 +12,7 @@ abbrev old : (c : goal.After-push_reserved) → List (List ℕ)
 old c = map (λ v. v.items) c.self.inside.texts.items
 
 new : (c : goal.After-push_reserved) → number (old c) c.args.text.now ≡ None
-new c = ap (λ ts. number ts c.args.text.now) c.self.view_is ∙ sym c.in_default.ensures
+new c = ap (λ ts. number ts c.args.text.now) c.self.view_is ∙ sym c.in_default-sought.ensures
 
 -- the texts with the new one
 texts : (c : goal.After-push_reserved) → map (λ v. v.items) c.push_reserved.new.self.items ≡ old c ++ c.args.text.now ∷ []

@@ -16,9 +16,12 @@ short c = same_from_all_zip _ c.self.inside.short.entries c.in_ok-short.short.en
 pub invariant_of-result : goal.invariant_of-result
 invariant_of-result c =
     subst (λ ts. AreNumbers ts c.in_ok-short.short c.in_ok-long.long) (sym (texts c))
-    (same_maps c.self.inside.short c.in_ok-short.short c.self.inside.long c.in_ok-long.long (number (map (λ v. v.items) c.self.inside.texts.items)) (short c)
-    (alike _ (λ p q r. (same_from_all_zip _ p.0.items q.0.items r.0.0 (λ x y h. h), r.1)) c.self.inside.long.entries c.in_ok-long.long.entries c.in_ok-long.ensures.cases)
-    c.self.invariant)
+    (record {
+      told = same_maps c.self.inside.short c.in_ok-short.short c.self.inside.long c.in_ok-long.long (number (map (λ v. v.items) c.self.inside.texts.items)) (short c)
+          (alike _ (λ p q r. (same_from_all_zip _ p.0.items q.0.items r.0.0 (λ x y h. h), r.1)) c.self.inside.long.entries c.in_ok-long.long.entries c.in_ok-long.ensures.cases)
+          c.self.invariant.told;
+      once = c.self.invariant.once;
+    })
 
 pub returns : goal.returns
 returns c = texts c ∙ c.self.view_is
