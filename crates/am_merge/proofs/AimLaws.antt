@@ -1,14 +1,16 @@
 -- Aims that are told one after another.
-use Rattle.std.proofs.Common.{ℕ, zero, suc, ◌≡◌, ◌≢◌, ◌+◌, ◌<◌, List, [], ◌∷◌, ◌++◌, ◌&&◌, length, get_or, take, drop, map, filter, reverse, flat_map, Bool, true, false, refl, sym, ap, ◌∙◌, subst, eqb, inl, inr, arith, append_assoc}
+use Rattle.std.proofs.Common.{ℕ, zero, suc, ◌≡◌, ◌≢◌, ◌+◌, ◌<◌, All, List, [], ◌∷◌, ◌++◌, ◌&&◌, length, get_or, take, drop, map, filter, reverse, flat_map, Bool, true, false, refl, sym, ap, ◌∙◌, subst, eqb, inl, inr, arith, append_assoc}
 use Rattle.std.proofs.Math.ListN.{get_or-map}
 use Rattle.std.proofs.lemmas.Bool.{cases_eq, cases_lt, eq-eqb, ne_eqb, both_ways, and_parts, and_from}
 use Rattle.std.proofs.lemmas.Cmp.{tied_itself}
-use Rattle.std.proofs.lemmas.List.{append-nil, map-append, take_more}
+use Rattle.std.proofs.lemmas.List.{append-nil, map-append, take_more, reverse-append}
 use Rattle.std.proofs.lemmas.List.Concat.{flat_map-append}
 use Rattle.std.proofs.lemmas.List.Elements.{filter-append, All-append, All-cons, All-nil}
+use Rattle.std.proofs.lemmas.List.Sorted.{All-permutation, IsPermutation-reverse}
 use Rattle.std.specs.declared.cmp.Ordering.TheVariants.{Less, Equal}
 use Rattle.am_types.specs.declared.OpId.{OpId}
 use Rattle.am_types.specs.declared.Key.{Key}
+use Rattle.am_types.specs.declared.Key.TheVariants.{Name, Head, Elem}
 use Rattle.am_types.specs.declared.ObjId.{ObjId}
 use Rattle.am_types.specs.declared.ObjId.TheVariants.{Root}
 use Rattle.am_types.specs.Order.{id_cmp}
@@ -23,7 +25,7 @@ use Rattle.am_merge.specs.Aims.{AreAims, means_element, means_id, namers, one_at
 use Rattle.am_merge.specs.Naming.{Named, is_named, reference, reference_of, references}
 use Rattle.am_merge.specs.Walk.{gives_value}
 use Rattle.am_merge.specs.declared.aims.Aim.{Aim}
-use Rattle.am_merge.proofs.Backwards.{one_before}
+use Rattle.am_merge.proofs.Hanging.{filter-reverse}
 
 -- ---- the operation at a place
 
@@ -270,14 +272,53 @@ one_chosen p A k x e =
     ∙ ap references (sym (filter-append p (take k A) (x ∷ [])))
     ∙ ap (λ l. references (filter p l)) (sym (one_taken A k x e))
 
-pub one_chosen_before : (p : Operation → Bool) (A : List Operation) (k : ℕ) (x : Operation) → one_at A k ≡ x ∷ []
-    → references (filter p (reverse (drop (k + 1) A))) ++ references (filter p (x ∷ [])) ≡ references (filter p (reverse (drop k A)))
-one_chosen_before p A k x e =
-    sym (one_before p (drop (k + 1) A) x) ∙ ap (λ l. references (filter p (reverse l))) (sym (one_dropped A k x e))
-
 -- an id more
 pub one_named : (x : Operation) (ps : List OpId) (k : ℕ) (i : OpId) → k < length ps → i ≡ get_or ps k i → map (λ p. by_id p x) (take k ps) ++ by_id i x ∷ [] ≡ map (λ p. by_id p x) (take (k + 1) ps)
 one_named x ps k i l is =
     sym (map-append (λ p. by_id p x) (take k ps) (i ∷ []))
     ∙ ap (λ j. map (λ p. by_id p x) (take k ps ++ j ∷ [])) is
     ∙ ap (map (λ p. by_id p x)) (sym (take_more ps k i l))
+
+-- ---- the other way round
+
+-- what falls into parts of at most one each
+turned : {X Y : Type 0} (f : X → List Y) (xs : List X) → ((x : X) → reverse (f x) ≡ f x) → flat_map f (reverse xs) ≡ reverse (flat_map f xs)
+turned f [] short = refl
+turned f (x ∷ xs) short =
+    ap (flat_map f) (reverse-append (x ∷ []) xs)
+    ∙ flat_map-append f (reverse xs) (x ∷ [])
+    ∙ ap (λ l. flat_map f (reverse xs) ++ l) (append-nil (f x))
+    ∙ (λ i. turned f xs short i ++ sym (short x) i)
+    ∙ sym (reverse-append (f x) (flat_map f xs))
+
+one_turned : (l : List Operation) → reverse (take 1 l) ≡ take 1 l
+one_turned [] = refl
+one_turned (x ∷ l) = refl
+
+reference_turned : (x : Operation) (k : Key) → reverse (reference_of x k) ≡ reference_of x k
+reference_turned x (Name n) = refl
+reference_turned x Head = refl
+reference_turned x (Elem i) = refl
+
+pub chosen_turned : (p : Operation → Bool) (A : List Operation) → references (filter p (reverse A)) ≡ reverse (references (filter p A))
+chosen_turned p A = ap references (filter-reverse p A) ∙ turned reference (filter p A) (λ x. reference_turned x x.op.key)
+
+pub aims_turned : (p : Operation → Named → Bool) (A : List Operation) (ns : List Named) (us : List Aim) → AreAims p A ns us → AreAims p A (reverse ns) (reverse us)
+aims_turned p A ns us h = record {
+  targets = All-reversed (λ (a : Aim). a.target < length A) us h.targets;
+  places = All-reversed (λ (a : Aim). a.place < length A) us h.places;
+  tell = λ k x e.
+      ap (λ l. picked A (map (λ (a : Aim). a.place) l)) (filter-reverse (λ (a : Aim). eqb a.target k) us)
+      ∙ ap (picked A) (map-reversed (λ (a : Aim). a.place) (filter (λ (a : Aim). eqb a.target k) us))
+      ∙ turned (one_at A) (places_to us k) (λ j. one_turned (drop j A))
+      ∙ ap reverse (h.tell k x e)
+      ∙ sym (map-reversed (λ (n : Named). n.operation) (filter (p x) ns))
+      ∙ ap (map (λ (n : Named). n.operation)) (sym (filter-reverse (p x) ns));
+}
+  where
+    map-reversed : {X Y : Type 0} (f : X → Y) (xs : List X) → map f (reverse xs) ≡ reverse (map f xs)
+    map-reversed f [] = refl
+    map-reversed f (x ∷ xs) = ap (map f) (reverse-append (x ∷ []) xs) ∙ map-append f (reverse xs) (x ∷ []) ∙ ap (λ l. l ++ f x ∷ []) (map-reversed f xs) ∙ sym (reverse-append (f x ∷ []) (map f xs))
+
+    All-reversed : {X : Type 0} (P : X → Type 0) (xs : List X) → All P xs → All P (reverse xs)
+    All-reversed P xs all = All-permutation P xs (reverse xs) (IsPermutation-reverse xs) all

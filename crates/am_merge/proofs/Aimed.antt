@@ -4,28 +4,30 @@ use Rattle.std.specs.List.{AllByRecursion}
 use Rattle.std.proofs.lemmas.Bool.{cases_Bool}
 use Rattle.std.proofs.lemmas.List.{append-nil, drop-map, reverse-append}
 use Rattle.std.proofs.lemmas.List.Elements.{All-append, All-contains, All-from_recursion, Contains-get_or, recursion_from_All}
+use Rattle.std.proofs.lemmas.List.Sorted.{All-permutation}
 use Rattle.am_types.specs.declared.OpId.{OpId}
 use Rattle.am_types.specs.Operations.{Operation, ascending}
 use Rattle.am_types.specs.Rows.{succs}
 use Rattle.am_types.specs.Order.{sorted_by}
-use Rattle.am_laws.proofs.Ancestry.{Contains-from_filter}
+use Rattle.am_types.proofs.Sorting.{IsPermutation-sorted_by}
 use Rattle.am_places.specs.Numbered.{operation_of}
 use Rattle.am_places.specs.Rising.{HasAt, HasNone, Rise}
 use Rattle.am_places.specs.declared.numbered.Numbered.{Numbered}
 use Rattle.am_places.specs.Sound.{HaveDistinctPreds}
 use Rattle.am_places.proofs.Ascent.{one_operation}
+use Rattle.am_places.proofs.Stable.{sorted_by-map}
 use Rattle.am_merge.specs.Aims.{AreLinked, Tells, means_element, means_id, namers, one_at, picked, places_to, stacked_at}
 use Rattle.am_merge.specs.Buckets.{IsNext, is_in}
-use Rattle.am_merge.specs.Starts.{by_start}
+use Rattle.am_merge.specs.Starts.{Placed, Stands, by_placed, by_start}
 use Rattle.am_merge.specs.Turns.{pushed}
 use Rattle.am_merge.specs.Naming.{Named, is_named, predecessors, references}
-use Rattle.am_merge.specs.Walk.{behind, behind_of, hanging, spot_of, starts}
+use Rattle.am_merge.specs.Walk.{beginning, behind, behind_of, hanging, spot_of, starts}
 use Rattle.am_merge.specs.declared.aims.Aim.{Aim}
 use Rattle.am_merge.specs.declared.aims.Aims.{Aims}
 use Rattle.am_merge.proofs.Linked.{next_more}
 use Rattle.am_merge.proofs.Lists.{map-map}
 use Rattle.am_merge.proofs.NamedLaws.{hung_named, succs_named}
-use Rattle.am_merge.proofs.Sorts.{Contains-from_sorted_by}
+use Rattle.am_merge.proofs.Starting.{starts_alike}
 
 abbrev target : Aim → ℕ
 target a = a.target
@@ -99,10 +101,16 @@ more_within n k ks aims all places =
     All-append (λ j. j < n) ks (places_to aims k) all
     (All-from_recursion (λ j. j < n) (places_to aims k) (namers_within n k aims (recursion_from_All (λ (a : Aim). a.place < n) aims places)))
 
-pub those_that_start : (A : List Operation) → All (Contains A) (sorted_by by_start (filter starts A))
-those_that_start A k d l =
-    let xs : List Operation = sorted_by by_start (filter starts A) in
-    (Contains-from_filter starts A (get_or xs k d) (Contains-from_sorted_by by_start (filter starts A) (get_or xs k d) (Contains-get_or xs k d l))).0
+-- ---- what starts, beside its place
+
+abbrev pub operation_in : Placed → Operation
+operation_in p = p.operation
+
+pub starts_sorted : (A : List Operation) (ps : List Placed) → map operation_in ps ≡ filter starts A → ascending A ≡ A → map operation_in (sorted_by by_placed ps) ≡ beginning A
+starts_sorted A ps e up = sym (sorted_by-map by_start operation_in ps) ∙ ap (sorted_by by_start) e ∙ starts_alike A up
+
+pub stand_sorted : (A : List Operation) (ps : List Placed) → All (Stands A) ps → All (Stands A) (sorted_by by_placed ps)
+stand_sorted A ps all = All-permutation (Stands A) ps (sorted_by by_placed ps) (IsPermutation-sorted_by by_placed ps) all
 
 -- ---- who names what is at a place
 

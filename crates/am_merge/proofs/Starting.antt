@@ -15,7 +15,7 @@ use Rattle.am_types.specs.Operations.{Operation, ascending, operation_cmp}
 use Rattle.am_types.proofs.Permuted.{operation_total}
 use Rattle.am_types.proofs.Rising.{Rises, Rises-sorted_by}
 use Rattle.am_types.proofs.Sorting.{IsPermutation-sorted_by}
-use Rattle.am_merge.specs.Starts.{by_start}
+use Rattle.am_merge.specs.Starts.{Placed, by_placed, by_start}
 use Rattle.am_merge.specs.Walk.{Spot, beginning, by_spot, falling_id, lane_of, name_in, rising_id, spot_of, starts}
 use Rattle.am_merge.proofs.Beginning.{rises_filtered}
 use Rattle.am_merge.proofs.Places.{object_total}
@@ -71,3 +71,6 @@ by_start_total =
     (then_total (on_total (λ (s : Spot). s.obj) object_total)
     (then_total (on_total (λ (s : Spot). lane_of s.insert s.key) nat_cmp_total)
     (then_total (on_total (λ (s : Spot). name_in s.key) nat_list_cmp_total) (on_total (λ (s : Spot). falling_id s.insert s.id) falling_total))))
+
+pub by_placed_total : IsTotalOrder by_placed
+by_placed_total = on_total (λ (p : Placed). p.operation) by_start_total

@@ -7,13 +7,16 @@
 --                           the lane and the first 62 bits of the name, and behind all these the counters of other objects
 --     key_at x              that of an operation: the lesser key comes first, and where keys are the same, they tell no order
 --     actor_in o            the actor of the object o; the root has none
-use Rattle.std.specs.Prelude.{ℕ, ◌+◌, ◌*◌, ◌/◌, ◌^◌, List, [], min}
+--     by_placed p q         by_start of two operations beside their places
+--     Stands A p            the operation p stands at its place in A
+use Rattle.std.specs.Prelude.{ℕ, ◌≡◌, ◌<◌, ◌+◌, ◌*◌, ◌/◌, ◌^◌, List, [], ◌∷◌, length, min}
 use Rattle.std.specs.Ordering.{nat_cmp, on, then_cmp}
 use Rattle.std.specs.declared.cmp.Ordering.{Ordering}
 use Rattle.am_types.specs.declared.ObjId.{ObjId}
 use Rattle.am_types.specs.declared.ObjId.TheVariants.{Root, Made}
 use Rattle.am_types.specs.Order.{bytes_cmp, object_cmp}
 use Rattle.am_types.specs.Operations.{Operation}
+use Rattle.am_merge.specs.Aims.{one_at}
 use Rattle.am_merge.specs.Fronts.{front_at}
 use Rattle.am_merge.specs.Walk.{Spot, falling_cmp, falling_id, lane_of, name_in, spot_of}
 
@@ -37,3 +40,14 @@ key_at x = start_key x.op.obj (lane_of x.op.insert x.op.key) (front_at x)
 abbrev pub actor_in : ObjId → List ℕ
 actor_in Root = []
 actor_in (Made i) = i.actor
+
+pub record Placed : Type 0 where
+  pub operation : Operation
+  pub place : ℕ
+
+abbrev pub by_placed : Placed → Placed → Ordering
+by_placed = on (λ p. p.operation) by_start
+
+pub record Stands (A : List Operation) (p : Placed) : Type 0 where
+  pub within : p.place < length A
+  pub is : one_at A p.place ≡ p.operation ∷ []

@@ -1,31 +1,58 @@
 //! The operations of added changes, and what the walk over rows takes of them.
-ghost use Rattle.std.specs.Prelude.{◌≡◌, ◌≤◌, ◌<◌, ◌^◌, ◌∷◌, ◌++◌, [], All, Contains, IfOk, OnOk, filter, length, map};
-ghost use Rattle.am_types.specs.Operations.{operations, all_operations, ascending};
+ghost use Rattle.std.specs.Prelude.{◌≡◌, ◌≤◌, ◌<◌, ◌^◌, ◌∷◌, ◌++◌, [], All, List, IfOk, OnOk, filter, length, map};
+ghost use Rattle.am_types.specs.Operations.{Operation, operations, all_operations, ascending};
 ghost use Rattle.am_places.specs.Numbered.{operation_of};
-ghost use Rattle.am_places.specs.Rising.{Rise};
 ghost use Rattle.am_places.specs.Sound.{HasRoom};
-ghost use Rattle.am_merge.specs.Aims.{stacked_at};
+ghost use Rattle.am_merge.specs.Aims.{one_at, stacked_at};
+ghost use Rattle.am_merge.specs.Starts.{Stands};
 ghost use Rattle.am_merge.specs.Walk.{beginning, starts};
 ghost use Rattle.am_merge.specs.Stacks.{stacked};
 
 use crate::buckets::{HasCounter, sort_by_counter};
 use crate::starts::{Start, sort_starts};
-use am_places::{Numbered, find_near};
+use am_places::Numbered;
 use am_types::actions::DELETE;
-use am_types::{Change, Key, compare_ids};
+use am_types::{ActorId, Change, Key, compare_ids, same_actor};
 use std::alloc::{AllocError, Global};
 use std::cmp::Ordering;
 
+// An actor is looked for among at most so many that came before.
+const FEW: usize = 16;
+
+// The actor, lent from where it came first: so what is read again and again is at one place.
+fn shared<'a>(
+    seen: &mut Vec<&'a ActorId>,
+    actor: &'a ActorId,
+) -> Result<&'a ActorId, AllocError>
+    ensures { IfOk result (λ a. a.now ≡ actor.now) }
+{
+    for i in 0..seen.len() {
+        let other = seen[i];
+        if same_actor(other.as_slice(), actor.as_slice()) {
+            return Ok(other);
+        }
+    }
+    if seen.len() < FEW {
+        seen.push(actor)?;
+    }
+    Ok(actor)
+}
+
 // The operations of a change go up by one from its start.
-fn push_operations<'a>(all: &mut Vec<Numbered<'a>>, change: &'a Change) -> Result<(), AllocError>
+fn push_operations<'a>(
+    all: &mut Vec<Numbered<'a>>,
+    change: &'a Change,
+    actor: &'a ActorId,
+) -> Result<(), AllocError>
     requires room { HasRoom change.now }
+    requires actor { actor.now ≡ change.now.actor }
     ensures { OnOk result (map operation_of all.new.items ≡ map operation_of all.old.items ++ operations change.now) }
 {
     let mut counter = change.start;
     for op in change.ops.as_slice() {
         all.push(Numbered {
             counter,
-            actor: &change.actor,
+            actor,
             op,
         })?;
         counter += 1;
@@ -48,8 +75,11 @@ fn gather<'a>(alloc: Global, changes: &[&'a Change]) -> Result<Vec<Numbered<'a>>
     ensures { IfOk result (λ all. map operation_of all.items ≡ all_operations (map (λ c. c.now) changes.now)) }
 {
     let mut all = Vec::with_capacity(alloc, total_of(changes))?;
+    let mut seen = Vec::new(alloc);
     for i in 0..changes.len() {
-        push_operations(&mut all, changes[i])?;
+        let change = changes[i];
+        let actor = shared(&mut seen, &change.actor)?;
+        push_operations(&mut all, change, actor)?;
     }
     Ok(all)
 }
@@ -102,16 +132,18 @@ fn starts(x: &Numbered<'_>) -> bool
     }
 }
 
-// If it starts. It is looked for at the guess first.
-fn push_start<'t, 'a>(
+/// The operation at a place, if it starts.
+pub fn push_start<'t, 'a>(
     all: &mut Vec<Start<'t, 'a>>,
     x: &'t Numbered<'a>,
-    guess: usize,
+    place: usize,
 ) -> Result<(), AllocError>
-    ensures { OnOk result (all.new.items ≡ all.old.items ++ filter starts (operation_of x.now ∷ [])) }
+    requires { place ≤ 2 ^ 22 }
+    ensures starts { OnOk result (map (λ s. s.operation) all.new.items ≡ map (λ s. s.operation) all.old.items ++ filter starts (operation_of x.now ∷ [])) }
+    ensures stand { OnOk result ((A : List Operation) → place < length A → one_at A place ≡ operation_of x.now ∷ [] → All (Stands A) all.old.items → All (Stands A) all.new.items) }
 {
     if starts(x) {
-        all.push(Start::of(x, guess))?;
+        all.push(Start::of(x, place))?;
         return Ok(());
     }
     Ok(())
@@ -122,7 +154,8 @@ fn starting<'t, 'a>(
     alloc: Global,
     operations: &'t [Numbered<'a>],
 ) -> Result<Vec<Start<'t, 'a>>, AllocError>
-    ensures { IfOk result (λ all. all.items ≡ filter starts (map operation_of operations.now)) }
+    requires { length operations.now ≤ 2 ^ 22 }
+    ensures { IfOk result (λ all. map (λ s. s.operation) all.items ≡ filter starts (map operation_of operations.now)) }
 {
     let mut all = Vec::new(alloc);
     for i in 0..operations.len() {
@@ -133,7 +166,7 @@ fn starting<'t, 'a>(
 
 // The operations themselves, as a stack: the first one is put last.
 fn stack_of<'a>(alloc: Global, starts: &[Start<'_, 'a>]) -> Result<Vec<Numbered<'a>>, AllocError>
-    ensures { IfOk result (λ all. stacked all.items ≡ starts.now) }
+    ensures { IfOk result (λ all. stacked all.items ≡ map (λ s. s.operation) starts.now) }
 {
     let mut all = Vec::with_capacity(alloc, starts.len())?;
     for i in (0..starts.len()).rev() {
@@ -147,7 +180,8 @@ pub fn beginning<'a>(
     alloc: Global,
     operations: &[Numbered<'a>],
 ) -> Result<Vec<Numbered<'a>>, AllocError>
-    requires { ascending (map operation_of operations.now) ≡ map operation_of operations.now }
+    requires ascends { ascending (map operation_of operations.now) ≡ map operation_of operations.now }
+    requires few { length operations.now ≤ 2 ^ 22 }
     ensures { IfOk result (λ all. stacked all.items ≡ beginning (map operation_of operations.now)) }
 {
     let mut starts = starting(alloc, operations)?;
@@ -155,38 +189,29 @@ pub fn beginning<'a>(
     stack_of(alloc, starts.as_slice())
 }
 
-// The places of these among the operations, as a stack: the first one is put last.
-fn places_of(
-    alloc: Global,
-    operations: &[Numbered<'_>],
-    starts: &[Start<'_, '_>],
-) -> Result<Vec<u32>, AllocError>
-    requires rise { Rise (map operation_of operations.now) }
-    requires few { length operations.now ≤ 2 ^ 22 }
-    requires among { All (Contains (map operation_of operations.now)) starts.now }
-    ensures places { IfOk result (λ all. stacked_at (map operation_of operations.now) all.items ≡ starts.now) }
-    ensures within { IfOk result (λ all. All (λ k. k < length operations.now) all.items) }
+// The places of these, as a stack: the first one is put last.
+fn places_of(alloc: Global, starts: &[Start<'_, '_>]) -> Result<Vec<u32>, AllocError>
+    ensures { IfOk result (λ all. (A : List Operation) → All (Stands A) starts.now → (stacked_at A all.items ≡ map (λ s. s.operation) starts.now) × All (λ k. k < length A) all.items) }
 {
     let mut all = Vec::with_capacity(alloc, starts.len())?;
     for i in (0..starts.len()).rev() {
-        let start = &starts[i];
-        match find_near(operations, start.operation().id(), start.guess()) {
-            Some(at) => all.push(at as u32)?,
-            None => unreachable!(),
-        }
+        all.push(starts[i].place())?;
     }
     Ok(all)
 }
 
 /// What waits when the walk begins, by places.
-pub fn beginning_places(alloc: Global, operations: &[Numbered<'_>]) -> Result<Vec<u32>, AllocError>
+pub fn beginning_places(
+    alloc: Global,
+    operations: &[Numbered<'_>],
+    mut starting: Vec<Start<'_, '_>>,
+) -> Result<Vec<u32>, AllocError>
     requires ascends { ascending (map operation_of operations.now) ≡ map operation_of operations.now }
-    requires rise { Rise (map operation_of operations.now) }
-    requires few { length operations.now ≤ 2 ^ 22 }
+    requires starts { map (λ s. s.operation) starting.items ≡ filter starts (map operation_of operations.now) }
+    requires stand { All (Stands (map operation_of operations.now)) starting.items }
     ensures places { IfOk result (λ all. stacked_at (map operation_of operations.now) all.items ≡ beginning (map operation_of operations.now)) }
     ensures within { IfOk result (λ all. All (λ k. k < length operations.now) all.items) }
 {
-    let mut starts = starting(alloc, operations)?;
-    sort_starts(&mut starts)?;
-    places_of(alloc, operations, starts.as_slice())
+    sort_starts(&mut starting)?;
+    places_of(alloc, starting.as_slice())
 }

@@ -1,4 +1,4 @@
-//! What added operations name of each other is sought, once.
+//! What an added operation names of the others is sought, once.
 ghost use Rattle.std.specs.Prelude.{◌≡◌, ◌≤◌, ◌<◌, ◌^◌, ◌++◌, ◌∷◌, ◌&&◌, [], List, filter, length, map, reverse, IfOk, OnOk};
 ghost use Rattle.am_types.specs.declared.ObjId.TheVariants.{Root};
 ghost use Rattle.am_types.specs.Operations.{Operation};
@@ -61,8 +61,8 @@ fn push_predecessor(
     Ok(())
 }
 
-// The operation at a place names its predecessors.
-fn push_predecessors(
+/// The operation at a place names its predecessors.
+pub fn push_predecessors(
     aims: &mut Vec<Aim>,
     operations: &[Numbered<'_>],
     guide: &Guide,
@@ -80,23 +80,6 @@ fn push_predecessors(
         push_predecessor(aims, operations, guide, place, preds[i].lend())?;
     }
     Ok(())
-}
-
-/// Who names whom as a predecessor.
-pub fn aims_at_predecessors(
-    alloc: Global,
-    operations: &[Numbered<'_>],
-    guide: &Guide,
-) -> Result<Vec<Aim>, AllocError>
-    requires rise { Rise (map operation_of operations.now) }
-    requires few { length operations.now ≤ 2 ^ 22 }
-    ensures { IfOk result (λ aims. AreAims means_id (map operation_of operations.now) (predecessors (map operation_of operations.now)) aims.items) }
-{
-    let mut aims = Vec::new(alloc);
-    for place in 0..operations.len() {
-        push_predecessors(&mut aims, operations, guide, place)?;
-    }
-    Ok(aims)
 }
 
 // Whether the operation inserts an element into this object.
@@ -158,8 +141,8 @@ fn push_reference(
     }
 }
 
-// If it is an insertion.
-fn push_insertion(
+/// The operation at a place names its element, if it is an insertion.
+pub fn push_insertion(
     aims: &mut Vec<Aim>,
     operations: &[Numbered<'_>],
     guide: &Guide,
@@ -177,8 +160,8 @@ fn push_insertion(
     Ok(())
 }
 
-// If it has a row and is no insertion.
-fn push_value(
+/// The same, if it has a row and is no insertion.
+pub fn push_value(
     aims: &mut Vec<Aim>,
     operations: &[Numbered<'_>],
     guide: &Guide,
@@ -199,52 +182,12 @@ fn push_value(
     push_reference(aims, operations, guide, place)
 }
 
-// The insertions among the operations.
-fn push_insertions(
-    aims: &mut Vec<Aim>,
-    operations: &[Numbered<'_>],
-    guide: &Guide,
-) -> Result<(), AllocError>
-    requires rise { Rise (map operation_of operations.now) }
-    requires few { length operations.now ≤ 2 ^ 22 }
-    ensures { OnOk result ((ns : List Named) → AreAims means_element (map operation_of operations.now) ns aims.old.items
-        → AreAims means_element (map operation_of operations.now) (ns ++ references (filter inserts (map operation_of operations.now))) aims.new.items) }
+/// The last of these goes behind the others first.
+pub fn push_reversed(aims: &mut Vec<Aim>, mut more: Vec<Aim>) -> Result<(), AllocError>
+    ensures { OnOk result (aims.new.items ≡ aims.old.items ++ reverse more.items) }
 {
-    for place in 0..operations.len() {
-        push_insertion(aims, operations, guide, place)?;
+    'rest: while let Some(aim) = more.pop() {
+        aims.push(aim)?;
     }
     Ok(())
-}
-
-// Those that have a row and are no insertions, the last one first.
-fn push_values(
-    aims: &mut Vec<Aim>,
-    operations: &[Numbered<'_>],
-    guide: &Guide,
-) -> Result<(), AllocError>
-    requires rise { Rise (map operation_of operations.now) }
-    requires few { length operations.now ≤ 2 ^ 22 }
-    ensures { OnOk result ((ns : List Named) → AreAims means_element (map operation_of operations.now) ns aims.old.items
-        → AreAims means_element (map operation_of operations.now) (ns ++ references (filter gives_value (reverse (map operation_of operations.now)))) aims.new.items) }
-{
-    for place in (0..operations.len()).rev() {
-        push_value(aims, operations, guide, place)?;
-    }
-    Ok(())
-}
-
-/// Who names which element, in the order in which they are put on the stack.
-pub fn aims_at_elements(
-    alloc: Global,
-    operations: &[Numbered<'_>],
-    guide: &Guide,
-) -> Result<Vec<Aim>, AllocError>
-    requires rise { Rise (map operation_of operations.now) }
-    requires few { length operations.now ≤ 2 ^ 22 }
-    ensures { IfOk result (λ aims. AreAims means_element (map operation_of operations.now) (references (hanging (map operation_of operations.now))) aims.items) }
-{
-    let mut aims = Vec::new(alloc);
-    push_insertions(&mut aims, operations, guide)?;
-    push_values(&mut aims, operations, guide)?;
-    Ok(aims)
 }

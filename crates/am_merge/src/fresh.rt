@@ -8,16 +8,16 @@ ghost use Rattle.am_places.specs.Sound.{HaveDistinctPreds};
 ghost use Rattle.am_colmeta.specs.Metadata.{metadata, listing, body};
 ghost use Rattle.am_doccols.specs.Columns.{written_rows};
 ghost use Rattle.am_doccols.specs.Conditions.{HasRoom, IsRowFor};
-ghost use Rattle.am_merge.specs.Aims.{Tells, means_element, means_id, one_at, stacked_at};
+ghost use Rattle.am_merge.specs.Aims.{AreAims, Tells, means_element, means_id, one_at, stacked_at};
 ghost use Rattle.am_merge.specs.Carrying.{CanCarry};
 ghost use Rattle.am_merge.specs.Naming.{predecessors, references};
 ghost use Rattle.am_merge.specs.Plans.{carried};
 ghost use Rattle.am_merge.specs.Walk.{beginning, behind, hanging, new_row, spot_of, walk_out};
 
 use crate::added::beginning_places;
-use crate::aiming::{aims_at_elements, aims_at_predecessors};
-use crate::aims::Aims;
+use crate::aims::{Aim, Aims};
 use crate::guide::Guide;
+use crate::overview::{Overview, look_over};
 use am_doccols::RowGatherer;
 use am_places::Numbered;
 use am_types::{ActorId, Bytes, IdRef, MOST_OPERATIONS};
@@ -73,7 +73,10 @@ fn put_all<'a>(
     operations: &[Numbered<'a>],
     named: &Aims,
     hung: &Aims,
+    waiting: &mut Vec<u32>,
 ) -> Result<(), AllocError>
+    requires places { stacked_at (map operation_of operations.now) waiting.old.items ≡ beginning (map operation_of operations.now) }
+    requires within { All (λ k. k < length operations.now) waiting.old.items }
     requires rise { Rise (map operation_of operations.now) }
     requires few { length operations.now ≤ 2 ^ 22 }
     requires ascends { ascending (map operation_of operations.now) ≡ map operation_of operations.now }
@@ -85,7 +88,6 @@ fn put_all<'a>(
     ensures actors { OnOk result (writer.new.0 ≡ writer.old.0) }
     ensures rows { OnOk result (writer.new.1 ≡ Some (carried (walk_out (map operation_of operations.now) 4194304 (beginning (map operation_of operations.now))) [])) }
 {
-    let mut waiting = beginning_places(alloc, operations)?;
     let mut room = Vec::new(alloc);
     let mut left = MOST_OPERATIONS;
     'rest: while left > 0 {
@@ -96,7 +98,7 @@ fn put_all<'a>(
         let at = place as usize;
         let y = operations[at];
         put_at(&mut room, writer, operations, named, at, &y)?;
-        push_hung(&mut waiting, operations, hung, at)?;
+        push_hung(waiting, operations, hung, at)?;
     }
     Ok(())
 }
@@ -105,24 +107,60 @@ fn put_all<'a>(
 fn named_among(
     alloc: Global,
     operations: &[Numbered<'_>],
-    guide: &Guide,
+    aims: Vec<Aim>,
 ) -> Result<Aims, AllocError>
-    requires rise { Rise (map operation_of operations.now) }
-    requires few { length operations.now ≤ 2 ^ 22 }
+    requires { AreAims means_id (map operation_of operations.now) (predecessors (map operation_of operations.now)) aims.items }
     ensures { IfOk result (Tells means_id (map operation_of operations.now) (predecessors (map operation_of operations.now))) }
 {
-    let aims = aims_at_predecessors(alloc, operations, guide)?;
     Aims::of(alloc, aims, operations.len())
 }
 
 // Who names which element.
-fn hung_among(alloc: Global, operations: &[Numbered<'_>], guide: &Guide) -> Result<Aims, AllocError>
-    requires rise { Rise (map operation_of operations.now) }
-    requires few { length operations.now ≤ 2 ^ 22 }
+fn hung_among(
+    alloc: Global,
+    operations: &[Numbered<'_>],
+    aims: Vec<Aim>,
+) -> Result<Aims, AllocError>
+    requires { AreAims means_element (map operation_of operations.now) (references (hanging (map operation_of operations.now))) aims.items }
     ensures { IfOk result (Tells means_element (map operation_of operations.now) (references (hanging (map operation_of operations.now)))) }
 {
-    let aims = aims_at_elements(alloc, operations, guide)?;
     Aims::of(alloc, aims, operations.len())
+}
+
+// What is known of operations before the first row.
+#[derive(Drop)]
+struct Known {
+    // Who names whom as a predecessor.
+    named: Aims,
+    // Who names which element.
+    hung: Aims,
+    // The places of those that wait, as a stack.
+    waiting: Vec<u32>,
+}
+
+fn known_of(alloc: Global, operations: &[Numbered<'_>]) -> Result<Known, AllocError>
+    requires rise { Rise (map operation_of operations.now) }
+    requires few { length operations.now ≤ 2 ^ 22 }
+    requires ascends { ascending (map operation_of operations.now) ≡ map operation_of operations.now }
+    ensures named { IfOk result (λ k. Tells means_id (map operation_of operations.now) (predecessors (map operation_of operations.now)) k.named) }
+    ensures hung { IfOk result (λ k. Tells means_element (map operation_of operations.now) (references (hanging (map operation_of operations.now))) k.hung) }
+    ensures places { IfOk result (λ k. stacked_at (map operation_of operations.now) k.waiting.items ≡ beginning (map operation_of operations.now)) }
+    ensures within { IfOk result (λ k. All (λ j. j < length operations.now) k.waiting.items) }
+{
+    let guide = Guide::of(alloc, operations)?;
+    let Overview {
+        named,
+        hung,
+        starts,
+    } = look_over(alloc, operations, &guide)?;
+    let waiting = beginning_places(alloc, operations, starts)?;
+    let named = named_among(alloc, operations, named)?;
+    let hung = hung_among(alloc, operations, hung)?;
+    Ok(Known {
+        named,
+        hung,
+        waiting,
+    })
 }
 
 /// The metadata and the body of the columns of the operations' rows. Places name these actors.
@@ -139,12 +177,17 @@ pub fn fresh_text<'a>(
     ensures metadata { IfOk result (λ text. text.0 ≡ metadata (listing (written_rows actors.now (carried (walk_out (map operation_of operations.now) 4194304 (beginning (map operation_of operations.now))) [])))) }
     ensures body { IfOk result (λ text. text.1 ≡ body (written_rows actors.now (carried (walk_out (map operation_of operations.now) 4194304 (beginning (map operation_of operations.now))) []))) }
 {
-    let guide = Guide::of(alloc, operations)?;
-    let named = named_among(alloc, operations, &guide)?;
-    let hung = hung_among(alloc, operations, &guide)?;
+    let mut known = known_of(alloc, operations)?;
     let mut writer = RowGatherer::new(alloc, actors)?;
     // (no way out lets go of the writer, whose proof would take long)
-    let all = put_all(alloc, &mut writer, operations, &named, &hung);
+    let all = put_all(
+        alloc,
+        &mut writer,
+        operations,
+        &known.named,
+        &known.hung,
+        &mut known.waiting,
+    );
     let text = writer.finish();
     match all {
         Ok(()) => text,

@@ -18,6 +18,7 @@ mod mentions;
 mod metas;
 mod naming;
 mod order;
+mod overview;
 mod respelling;
 mod rows;
 mod spot;

@@ -48,7 +48,8 @@ fn tables_of<'a>(alloc: Global, operations: &[Numbered<'a>]) -> Result<Tables<'a
 
 // The walk before the first row.
 fn start<'a>(alloc: Global, operations: &[Numbered<'a>]) -> Result<Walk<'a>, AllocError>
-    requires { ascending (map operation_of operations.now) ≡ map operation_of operations.now }
+    requires ascends { ascending (map operation_of operations.now) ≡ map operation_of operations.now }
+    requires few { length operations.now ≤ 2 ^ 22 }
     ensures few { IfOk result (λ w. w.skipped ≡ 0) }
     ensures left { IfOk result (λ w. w.left ≡ 4194304) }
     ensures waiting { IfOk result (λ w. waiting_of w ≡ beginning (map operation_of operations.now)) }
@@ -71,6 +72,7 @@ fn walk_all<'a>(
     rows: &RowCursor<'_>,
 ) -> Result<Walk<'a>, AllocError>
     requires ascends { ascending (map operation_of operations.now) ≡ map operation_of operations.now }
+    requires few_added { length operations.now ≤ 2 ^ 22 }
     requires few { length rows.now ≤ 2 ^ 22 }
     ensures { IfOk result (λ w. AreTables (map operation_of operations.now) tables.now
         → done_in tables.now.named.items w ≡ walked (map operation_of operations.now) rows.now 4194304 (beginning (map operation_of operations.now))) }
@@ -89,6 +91,7 @@ fn walked_text<'a>(
     tables: &Tables<'a>,
 ) -> Result<(Bytes, Bytes), AllocError>
     requires tables { AreTables (map operation_of operations.now) tables.now }
+    requires few_added { length operations.now ≤ 2 ^ 22 }
     requires few { length rows.now ≤ 2 ^ 22 }
     requires can { CanCarry actors.now (Some []) (walked (map operation_of operations.now) rows.now 4194304 (beginning (map operation_of operations.now))) rows.now }
     ensures metadata { IfOk result (λ text. text.0 ≡ metadata (listing (written_rows actors.now (carried (walked (map operation_of operations.now) rows.now 4194304 (beginning (map operation_of operations.now))) rows.now)))) }

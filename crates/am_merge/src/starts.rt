@@ -5,7 +5,7 @@ ghost use Rattle.am_types.specs.Bytes.{IsBytes};
 ghost use Rattle.am_types.specs.Order.{bytes_cmp, object_cmp, sorted_by};
 ghost use Rattle.am_places.specs.Numbered.{operation_of};
 ghost use Rattle.am_merge.specs.Fronts.{front_at, is_root};
-ghost use Rattle.am_merge.specs.Starts.{actor_in, by_start, key_at, start_key, start_lane_cmp, turn_cmp};
+ghost use Rattle.am_merge.specs.Starts.{actor_in, by_placed, by_start, key_at, start_key, start_lane_cmp, turn_cmp};
 ghost use Rattle.am_merge.specs.Walk.{lane_of, name_in, spot_of};
 
 use crate::front::{compare_behind, front};
@@ -39,7 +39,7 @@ const LAST_COUNTER: u64 = 1 << 61;
 const GREATEST_KEY: u64 = 3 * LANE + LAST_COUNTER;
 
 /// An operation, lent, beside what mostly decides where it starts, so that mostly nothing is read of it. There is one for each
-/// that starts, so it is to stay small. Contracts see the operation.
+/// that starts, so it is to stay small. Contracts see the operation beside its place.
 #[derive(Drop)]
 pub struct Start<'t, 'a> {
     operation: &'t Numbered<'a>,
@@ -50,8 +50,8 @@ pub struct Start<'t, 'a> {
     front_low: u64,
     /// The actor of the object; the root has none.
     object_actor: &'a [u8],
-    /// Where the operation is looked for first. No contract speaks of it.
-    guess: u32,
+    /// Where the operation stands.
+    place: u32,
     in_root: bool,
     /// Names come first, and insertions last.
     lane: u8,
@@ -64,15 +64,14 @@ const _: () = prove!(size_of::<Start<'static, 'static>>() <= 56);
 impl<'t, 'a> Model for Start<'t, 'a> {
     ghost use Rattle.std.specs.Prelude.{◌≡◌, ◌/◌, ◌%◌, ◌^◌, length, min};
     ghost use Rattle.am_types.specs.Bytes.{IsBytes};
-    ghost use Rattle.am_types.specs.Operations.{Operation};
     ghost use Rattle.am_places.specs.Numbered.{operation_of};
     ghost use Rattle.am_merge.specs.Fronts.{front_at, is_root};
-    ghost use Rattle.am_merge.specs.Starts.{actor_in, key_at};
+    ghost use Rattle.am_merge.specs.Starts.{Placed, actor_in, key_at};
     ghost use Rattle.am_merge.specs.Walk.{lane_of, name_in};
 
-    ghost Value = { Operation };
+    ghost Value = { Placed };
 
-    ghost view = { λ s. operation_of s.operation.now };
+    ghost view = { λ s. record { operation = operation_of s.operation.now; place = s.place } };
 
     ghost invariant = { λ s. (s.key ≡ key_at (operation_of s.operation.now))
         × (s.front_high ≡ front_at (operation_of s.operation.now) / 2 ^ 64)
@@ -164,8 +163,8 @@ fn key(obj: &ObjId, lane: u8, front: u128) -> u64
 
 // By the fronts of names, which are bytes.
 fn compare_fronts(a: &Start<'_, '_>, b: &Start<'_, '_>) -> Ordering
-    ensures order { result ≡ nat_cmp (front_at a.now) (front_at b.now) }
-    ensures bytes { IsBytes (name_in a.now.op.key) × IsBytes (name_in b.now.op.key) }
+    ensures order { result ≡ nat_cmp (front_at a.now.operation) (front_at b.now.operation) }
+    ensures bytes { IsBytes (name_in a.now.operation.op.key) × IsBytes (name_in b.now.operation.op.key) }
 {
     match a.front_high.cmp(&b.front_high) {
         Ordering::Less => Ordering::Less,
@@ -176,8 +175,8 @@ fn compare_fronts(a: &Start<'_, '_>, b: &Start<'_, '_>) -> Ordering
 
 // By name, where both names have one front.
 fn compare_ends(a: &Start<'_, '_>, b: &Start<'_, '_>) -> Ordering
-    requires { front_at a.now ≡ front_at b.now }
-    ensures { result ≡ bytes_cmp (name_in a.now.op.key) (name_in b.now.op.key) }
+    requires { front_at a.now.operation ≡ front_at b.now.operation }
+    ensures { result ≡ bytes_cmp (name_in a.now.operation.op.key) (name_in b.now.operation.op.key) }
 {
     if a.bytes <= WIDTH && b.bytes <= WIDTH {
         return a.bytes.cmp(&b.bytes);
@@ -187,7 +186,7 @@ fn compare_ends(a: &Start<'_, '_>, b: &Start<'_, '_>) -> Ordering
 
 // By name.
 fn compare_names(a: &Start<'_, '_>, b: &Start<'_, '_>) -> Ordering
-    ensures { result ≡ bytes_cmp (name_in a.now.op.key) (name_in b.now.op.key) }
+    ensures { result ≡ bytes_cmp (name_in a.now.operation.op.key) (name_in b.now.operation.op.key) }
 {
     match compare_fronts(a, b) {
         Ordering::Less => Ordering::Less,
@@ -198,7 +197,7 @@ fn compare_names(a: &Start<'_, '_>, b: &Start<'_, '_>) -> Ordering
 
 // By the turns of insertions, which alone are in the last lane.
 fn compare_turns(a: &Start<'_, '_>, b: &Start<'_, '_>) -> Ordering
-    ensures { result ≡ turn_cmp (spot_of a.now) (spot_of b.now) }
+    ensures { result ≡ turn_cmp (spot_of a.now.operation) (spot_of b.now.operation) }
 {
     if a.lane < INSERTIONS && b.lane < INSERTIONS {
         return Ordering::Equal;
@@ -208,7 +207,7 @@ fn compare_turns(a: &Start<'_, '_>, b: &Start<'_, '_>) -> Ordering
 
 // Within one lane.
 fn compare_in_lane(a: &Start<'_, '_>, b: &Start<'_, '_>) -> Ordering
-    ensures { result ≡ ordering_then (bytes_cmp (name_in a.now.op.key) (name_in b.now.op.key)) (turn_cmp (spot_of a.now) (spot_of b.now)) }
+    ensures { result ≡ ordering_then (bytes_cmp (name_in a.now.operation.op.key) (name_in b.now.operation.op.key)) (turn_cmp (spot_of a.now.operation) (spot_of b.now.operation)) }
 {
     match compare_names(a, b) {
         Ordering::Less => Ordering::Less,
@@ -219,14 +218,14 @@ fn compare_in_lane(a: &Start<'_, '_>, b: &Start<'_, '_>) -> Ordering
 
 // By lane.
 fn compare_lanes(a: &Start<'_, '_>, b: &Start<'_, '_>) -> Ordering
-    ensures { result ≡ nat_cmp (lane_of a.now.op.insert a.now.op.key) (lane_of b.now.op.insert b.now.op.key) }
+    ensures { result ≡ nat_cmp (lane_of a.now.operation.op.insert a.now.operation.op.key) (lane_of b.now.operation.op.insert b.now.operation.op.key) }
 {
     a.lane.cmp(&b.lane)
 }
 
 // Within one object.
 fn compare_in_object(a: &Start<'_, '_>, b: &Start<'_, '_>) -> Ordering
-    ensures { result ≡ start_lane_cmp (spot_of a.now) (spot_of b.now) }
+    ensures { result ≡ start_lane_cmp (spot_of a.now.operation) (spot_of b.now.operation) }
 {
     match compare_lanes(a, b) {
         Ordering::Less => Ordering::Less,
@@ -237,8 +236,8 @@ fn compare_in_object(a: &Start<'_, '_>, b: &Start<'_, '_>) -> Ordering
 
 // By object. A key below the greatest tells the counter: where the actors are the same too, neither operation is read.
 fn compare_objects_of(a: &Start<'_, '_>, b: &Start<'_, '_>) -> Ordering
-    requires { key_at a.now ≡ key_at b.now }
-    ensures { result ≡ object_cmp a.now.op.obj b.now.op.obj }
+    requires { key_at a.now.operation ≡ key_at b.now.operation }
+    ensures { result ≡ object_cmp a.now.operation.op.obj b.now.operation.op.obj }
 {
     if a.in_root && b.in_root {
         return Ordering::Equal;
@@ -255,8 +254,8 @@ fn compare_objects_of(a: &Start<'_, '_>, b: &Start<'_, '_>) -> Ordering
 
 // Part by part.
 fn compare_parts(a: &Start<'_, '_>, b: &Start<'_, '_>) -> Ordering
-    requires { key_at a.now ≡ key_at b.now }
-    ensures { result ≡ by_start a.now b.now }
+    requires { key_at a.now.operation ≡ key_at b.now.operation }
+    ensures { result ≡ by_start a.now.operation b.now.operation }
 {
     match compare_objects_of(a, b) {
         Ordering::Less => Ordering::Less,
@@ -268,9 +267,9 @@ fn compare_parts(a: &Start<'_, '_>, b: &Start<'_, '_>) -> Ordering
 // Two with one key: in the root they are in one lane. It is kept apart, so that what the keys decide takes few steps.
 #[inline(never)]
 fn compare_tied(a: &Start<'_, '_>, b: &Start<'_, '_>) -> Ordering
-    requires key { key_at a.now ≡ key_at b.now }
-    requires bytes { IsBytes (name_in a.now.op.key) × IsBytes (name_in b.now.op.key) }
-    ensures { result ≡ by_start a.now b.now }
+    requires key { key_at a.now.operation ≡ key_at b.now.operation }
+    requires bytes { IsBytes (name_in a.now.operation.op.key) × IsBytes (name_in b.now.operation.op.key) }
+    ensures { result ≡ by_start a.now.operation b.now.operation }
 {
     if a.in_root {
         return compare_in_lane(a, b);
@@ -280,7 +279,7 @@ fn compare_tied(a: &Start<'_, '_>, b: &Start<'_, '_>) -> Ordering
 
 // The order of the walk, where what stands at one name is given in order: mostly by the keys alone.
 fn compare_starts(a: &Start<'_, '_>, b: &Start<'_, '_>) -> Ordering
-    ensures { result ≡ by_start a.now b.now }
+    ensures { result ≡ by_start a.now.operation b.now.operation }
 {
     if a.key < b.key {
         return Ordering::Less;
@@ -292,9 +291,10 @@ fn compare_starts(a: &Start<'_, '_>, b: &Start<'_, '_>) -> Ordering
 }
 
 impl<'t, 'a> Start<'t, 'a> {
-    /// The operation beside what decides, and where it is looked for first.
-    pub fn of(x: &'t Numbered<'a>, guess: usize) -> Start<'t, 'a>
-        ensures { result ≡ operation_of x.now }
+    /// The operation at a place, beside what decides.
+    pub fn of(x: &'t Numbered<'a>, place: usize) -> Start<'t, 'a>
+        requires { place ≤ 2 ^ 22 }
+        ensures { result ≡ record { operation = operation_of x.now; place = place } }
     {
         let name = name_of(x).as_bytes();
         slice_known(name);
@@ -302,8 +302,7 @@ impl<'t, 'a> Start<'t, 'a> {
         let front = front(name);
         Start {
             operation: x,
-            // (a guess needs no more bits)
-            guess: guess.min(u32::MAX as usize) as u32,
+            place: place as u32,
             key: key(&x.op.obj, lane, front),
             front_high: (front / HALF) as u64,
             front_low: (front % HALF) as u64,
@@ -314,14 +313,16 @@ impl<'t, 'a> Start<'t, 'a> {
         }
     }
 
-    /// Where the operation is looked for first.
-    pub fn guess(&self) -> usize {
-        self.guess as usize
+    /// Where it stands.
+    pub fn place(&self) -> u32
+        ensures { result ≡ self.now.place }
+    {
+        self.place
     }
 
     /// The operation.
     pub fn operation(&self) -> Numbered<'a>
-        ensures { operation_of result ≡ self.now }
+        ensures { operation_of result ≡ self.now.operation }
     {
         *self.operation
     }
@@ -329,11 +330,11 @@ impl<'t, 'a> Start<'t, 'a> {
 
 /// Sorts them by where they start. What ties stays in order: so those given in ascending id stand in the order of the walk.
 pub fn sort_starts(all: &mut Vec<Start<'_, '_>>) -> Result<(), AllocError>
-    ensures { OnOk result (all.new.items ≡ sorted_by by_start all.old.items) }
+    ensures { OnOk result (all.new.items ≡ sorted_by by_placed all.old.items) }
 {
     all.sort_by(
         |a: &Start<'_, '_>, b: &Start<'_, '_>| -> Ordering
-            ensures { result ≡ by_start a.now b.now }
+            ensures { result ≡ by_placed a.now b.now }
         { compare_starts(a, b) },
     )?;
     Ok(())

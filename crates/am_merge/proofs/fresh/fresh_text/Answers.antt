@@ -17,8 +17,10 @@ put_all-all-requires c =
       few = c.requires.few;
       ascends = c.requires.ascends;
       distinct = c.requires.distinct;
-      named = c.in_ok-named.ensures;
-      hung = c.in_ok-hung.ensures;
+      named = c.in_ok-known.ensures.named;
+      hung = c.in_ok-known.ensures.hung;
+      places = c.in_ok-known.ensures.places;
+      within = c.in_ok-known.ensures.within;
       start = c.in_ok-writer.ensures.rows;
       can = can_start c.args.actors.now c.in_ok-writer.writer.0 c.in_ok-writer.writer.1 (walk_out A 4194304 (beginning A)) [] [] c.in_ok-writer.ensures.actors c.in_ok-writer.ensures.rows refl c.requires.can;
     }

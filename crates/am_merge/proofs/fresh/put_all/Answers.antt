@@ -18,9 +18,9 @@ rest-init c =
     let total : List Row = carried (walk_out A 4194304 (beginning A)) [] in
     record {
       actors = refl;
-      within = c.in_ok-waiting.ensures.within;
-      can = subst (λ ws. CanCarry c.args.writer.now.0 c.args.writer.now.1 (walk_out A 4194304 ws) []) (sym c.in_ok-waiting.ensures.places) c.requires.can;
-      whole = subst (λ ws. IfSome c.args.writer.now.1 (λ done. done ++ carried (walk_out A 4194304 ws) [] ≡ total)) (sym c.in_ok-waiting.ensures.places) (whole_start c.args.writer.now.1 (walk_out A 4194304 (beginning A)) [] [] c.requires.start refl);
+      within = c.requires.within;
+      can = subst (λ ws. CanCarry c.args.writer.now.0 c.args.writer.now.1 (walk_out A 4194304 ws) []) (sym c.requires.places) c.requires.can;
+      whole = subst (λ ws. IfSome c.args.writer.now.1 (λ done. done ++ carried (walk_out A 4194304 ws) [] ≡ total)) (sym c.requires.places) (whole_start c.args.writer.now.1 (walk_out A 4194304 (beginning A)) [] [] c.requires.start refl);
     }
 
 pub put_at-requires : goal.put_at-requires

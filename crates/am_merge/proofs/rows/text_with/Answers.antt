@@ -23,6 +23,7 @@ walked_text-requires c = record {
     ascends = c.requires.ascends;
     distinct = c.requires.distinct;
   };
+  few_added = c.requires.few_added;
   few = c.requires.few;
   can = c.requires.can;
 }

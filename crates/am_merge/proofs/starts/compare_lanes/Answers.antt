@@ -7,4 +7,4 @@ pub returns : goal.returns
 returns c =
     c.cmp.ensures
     ∙ (λ i. nat_cmp (c.a.invariant.4 i) (c.b.invariant.4 i))
-    ∙ (λ i. nat_cmp (lane_of (c.a.view_is i).op.insert (c.a.view_is i).op.key) (lane_of (c.b.view_is i).op.insert (c.b.view_is i).op.key))
+    ∙ (λ i. nat_cmp (lane_of (c.a.view_is i).operation.op.insert (c.a.view_is i).operation.op.key) (lane_of (c.b.view_is i).operation.op.insert (c.b.view_is i).operation.op.key))
