@@ -1,7 +1,7 @@
 -- Aims that are told one after another.
 use Rattle.std.proofs.Common.{ℕ, zero, suc, ◌≡◌, ◌≢◌, ◌+◌, ◌<◌, All, List, [], ◌∷◌, ◌++◌, ◌&&◌, length, get_or, take, drop, map, filter, reverse, flat_map, Bool, true, false, refl, sym, ap, ◌∙◌, subst, eqb, inl, inr, arith, append_assoc}
 use Rattle.std.proofs.Math.ListN.{get_or-map}
-use Rattle.std.proofs.lemmas.Bool.{cases_eq, cases_lt, eq-eqb, ne_eqb, both_ways, and_parts, and_from}
+use Rattle.std.proofs.lemmas.Bool.{cases_eq, cases_lt, eq-eqb, ne_eqb, both_ways, false_from_ne_true, and_parts, and_from}
 use Rattle.std.proofs.lemmas.Cmp.{tied_itself}
 use Rattle.std.proofs.lemmas.List.{append-nil, map-append, take_more, reverse-append}
 use Rattle.std.proofs.lemmas.List.Concat.{flat_map-append}
@@ -103,10 +103,6 @@ none_at (z ∷ A) i (suc k) y none e f = none_at A i k y none.1 e f
 
 -- ---- aims one after another
 
-not_true : (b : Bool) → (b ≡ true → ⊥) → b ≡ false
-not_true true never = absurd (never refl)
-not_true false never = refl
-
 module _ (p : Operation → Named → Bool) (A : List Operation) where
   namers-append : (us vs : List Aim) (k : ℕ) → namers A (us ++ vs) k ≡ namers A us k ++ namers A vs k
   namers-append us vs k =
@@ -156,7 +152,7 @@ module _ (p : Operation → Named → Bool) (A : List Operation) where
     tell = λ k z e. elim (cases_eq a.target k) [
       | inl same ↦ let is : z ≡ y = one_is A k z y e (ap (one_at A) (sym same) ∙ at) in
           named_one a k (eq-eqb a.target k same) ∙ here ∙ sym (told_one z n (ap (λ x. p x n) is ∙ says))
-      | inr other ↦ named_none a k (ne_eqb a.target k other) ∙ sym (told_none z n (not_true (p z n) (λ t. other (sym (alone k z e t)))))
+      | inr other ↦ named_none a k (ne_eqb a.target k other) ∙ sym (told_none z n (false_from_ne_true (p z n) (λ t. other (sym (alone k z e t)))))
     ];
   }
 
@@ -164,7 +160,7 @@ module _ (p : Operation → Named → Bool) (A : List Operation) where
   nowhere n never = record {
     targets = All-nil (λ (a : Aim). a.target < length A);
     places = All-nil (λ (a : Aim). a.place < length A);
-    tell = λ k z e. sym (told_none z n (not_true (p z n) (never k z e)));
+    tell = λ k z e. sym (told_none z n (false_from_ne_true (p z n) (never k z e)));
   }
 
   pub push_there : (ns : List Named) (us : List Aim) (n : Named) (a : Aim) (y : Operation) → AreAims p A ns us → one_at A a.place ≡ n.operation ∷ [] → one_at A a.target ≡ y ∷ [] → p y n ≡ true

@@ -20,10 +20,7 @@ use std::cmp::Ordering;
 const FEW: usize = 16;
 
 // The actor, lent from where it came first: so what is read again and again is at one place.
-fn shared<'a>(
-    seen: &mut Vec<&'a ActorId>,
-    actor: &'a ActorId,
-) -> Result<&'a ActorId, AllocError>
+fn shared<'a>(seen: &mut Vec<&'a ActorId>, actor: &'a ActorId) -> Result<&'a ActorId, AllocError>
     ensures { IfOk result (λ a. a.now ≡ actor.now) }
 {
     for i in 0..seen.len() {
@@ -50,11 +47,7 @@ fn push_operations<'a>(
 {
     let mut counter = change.start;
     for op in change.ops.as_slice() {
-        all.push(Numbered {
-            counter,
-            actor,
-            op,
-        })?;
+        all.push(Numbered { counter, actor, op })?;
         counter += 1;
     }
     Ok(())

@@ -3,7 +3,6 @@ ghost use Rattle.std.specs.Prelude.{◌≡◌, ◌<◌, ◌++◌, All, IfOk, OnO
 ghost use Rattle.am_types.specs.Views.{id_of};
 ghost use Rattle.am_places.specs.Numbered.{operation_of};
 ghost use Rattle.am_merge.specs.Aims.{AreLinked, namers, places_to};
-ghost use Rattle.am_merge.specs.Buckets.{AreLinks};
 
 use am_places::Numbered;
 use am_types::IdRef;
@@ -25,32 +24,22 @@ pub struct Aims {
     nexts: Vec<usize>,
 }
 
-// The links of the aims, from the last to the first.
-fn linked(alloc: Global, aims: Vec<Aim>, count: usize) -> Result<Aims, AllocError>
-    requires { All (λ a. a.target < count) aims.items }
-    ensures aims { IfOk result (λ t. t.aims.items ≡ aims.items) }
-    ensures heads { IfOk result (λ t. length t.heads.items ≡ count) }
-    ensures linked { IfOk result AreLinked }
-{
-    let mut heads = vec![in alloc; aims.len(); count]?;
-    let mut nexts = vec![in alloc; aims.len(); aims.len()]?;
-    for i in (0..aims.len()).rev() {
-        let target = aims[i].target as usize;
-        nexts[i] = heads[target];
-        heads[target] = i;
-    }
-    Ok(Aims { aims, heads, nexts })
-}
-
 impl Aims {
-    /// These aims, at so many operations.
+    /// These aims, at so many operations. They are linked from the last to the first.
     pub fn of(alloc: Global, aims: Vec<Aim>, count: usize) -> Result<Aims, AllocError>
         requires { All (λ a. a.target < count) aims.items }
         ensures aims { IfOk result (λ t. t.aims.items ≡ aims.items) }
         ensures heads { IfOk result (λ t. length t.heads.items ≡ count) }
         ensures linked { IfOk result AreLinked }
     {
-        linked(alloc, aims, count)
+        let mut heads = vec![in alloc; aims.len(); count]?;
+        let mut nexts = vec![in alloc; aims.len(); aims.len()]?;
+        for i in (0..aims.len()).rev() {
+            let target = aims[i].target as usize;
+            nexts[i] = heads[target];
+            heads[target] = i;
+        }
+        Ok(Aims { aims, heads, nexts })
     }
 
     /// The ids of the operations that name the one at a place go behind the others.

@@ -102,8 +102,8 @@ fn merged<'a>(
     Ok(ids)
 }
 
-/// The row of a new operation. The list is there for its room.
-pub fn put_row<'a>(
+// The row of a new operation. The list is there for its room.
+fn put_row<'a>(
     room: &mut Vec<IdRef<'a>>,
     writer: &mut RowGatherer<'a>,
     x: &Numbered<'a>,

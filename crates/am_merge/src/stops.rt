@@ -72,8 +72,8 @@ fn push_element<'a>(
     Ok(())
 }
 
-/// Once an element has come, what names it waits.
-pub fn push_hung<'a>(
+// Once an element has come, what names it waits.
+fn push_hung<'a>(
     waiting: &mut Vec<Numbered<'a>>,
     tables: &Tables<'a>,
     insert: bool,

@@ -16,12 +16,11 @@ loop-i-preserved c = λ A stand.
     let at = c.place.ensures in
     let in_A = stands.within in
     let low : k < length A = omega (arith, at, in_A) in
-    let before = c.loop-i.invariant A stand in
-    (
+    let before = c.loop-i.invariant A stand in (
       ap (stacked_at A) c.in_ok-push.ensures.items
-      ∙ stacked_more A c.loop-i.all.items k x.operation there
-      ∙ ap (λ l. x.operation ∷ l) before.0
-      ∙ sym (ap (map operation_in) (drop_less xs m x (omega (arith, c.loop-i-test.true)) (omega (arith, c.loop-i.auto.i)) c.index-starts-i.is)),
+          ∙ stacked_more A c.loop-i.all.items k x.operation there
+          ∙ ap (λ l. x.operation ∷ l) before.0
+          ∙ sym (ap (map operation_in) (drop_less xs m x (omega (arith, c.loop-i-test.true)) (omega (arith, c.loop-i.auto.i)) c.index-starts-i.is)),
       subst (All (λ j. j < length A)) (sym c.in_ok-push.ensures.items) (one_within (length A) k c.loop-i.all.items before.1 low),
     )
 
