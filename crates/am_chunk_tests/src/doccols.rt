@@ -81,22 +81,29 @@ fn are_metas(metadata: &[u8], body: &[u8]) -> bool {
 }
 
 fn names_a(rt: &impl Abort, row: &RowRef<'_>) {
-    assert!(rt; matches!(row.obj, ObjRef::Root) && matches!(row.key, KeyRef::Name("a")));
-    assert!(rt; row.id.counter == 1 && row.id.actor == &[0xaa][..] && row.action == 1);
+    assert!(rt; matches!(row.obj, ObjRef::Root));
+    assert!(rt; matches!(row.key, KeyRef::Name("a")));
+    assert!(rt; row.id.counter == 1);
+    assert!(rt; row.id.actor == &[0xaa][..]);
+    assert!(rt; row.action == 1);
 }
 
 fn sets_a(rt: &impl Abort, row: &RowRef<'_>) {
     names_a(rt, row);
-    assert!(rt; row.value.kind == 3 && row.value.raw == &[0x01][..] && !row.insert && !row.expand);
+    assert!(rt; row.value.kind == 3);
+    assert!(rt; row.value.raw == &[0x01][..]);
+    assert!(rt; !row.insert);
+    assert!(rt; !row.expand);
     assert!(rt; row.mark.is_none());
 }
 
 fn is_one_succ(rt: &impl Abort, succs: &mut SuccCursor<'_>) {
     let Some(succ) = succs.next() else {
-        assert!(rt; false, "a successor");
-        return;
+        panic!(rt; "a successor");
     };
-    assert!(rt; succ.counter == 2 && succ.actor == &[0xaa][..] && succs.next().is_none());
+    assert!(rt; succ.counter == 2);
+    assert!(rt; succ.actor == &[0xaa][..]);
+    assert!(rt; succs.next().is_none());
 }
 
 fn tells_the_set_key(rt: &impl Abort, rows: &RowCursor<'_>) {
@@ -108,7 +115,8 @@ fn tells_the_set_key(rt: &impl Abort, rows: &RowCursor<'_>) {
 }
 
 fn is_one_row(rt: &impl Abort, rows: &mut RowCursor<'_>) {
-    assert!(rt; has_row(rows) && !has_row(rows));
+    assert!(rt; has_row(rows));
+    assert!(rt; !has_row(rows));
 }
 
 #[test]
@@ -123,7 +131,8 @@ fn reads_a_set_key_that_was_deleted(rt: HostRuntime) {
 }
 
 fn is_blank(rt: &impl Abort, row: &RowRef<'_>) {
-    assert!(rt; row.id.counter == 0 && row.succs.again().next().is_none());
+    assert!(rt; row.id.counter == 0);
+    assert!(rt; row.succs.again().next().is_none());
 }
 
 fn reads_into<'a>(rt: &impl Abort, rows: &mut RowCursor<'a>, row: &mut RowRef<'a>) {
@@ -131,7 +140,8 @@ fn reads_into<'a>(rt: &impl Abort, rows: &mut RowCursor<'a>, row: &mut RowRef<'a
     assert!(rt; rows.next_into(row));
     names_a(rt, row);
     is_one_succ(rt, &mut row.succs);
-    assert!(rt; !rows.next_into(row) && row.id.counter == 1);
+    assert!(rt; !rows.next_into(row));
+    assert!(rt; row.id.counter == 1);
 }
 
 // The row that was there is kept behind the last, but for its successors, which were read.
@@ -150,7 +160,8 @@ fn unnamed_by_1(rows: &RowCursor<'_>) -> u64 {
 
 fn leaves_out(rt: &impl Abort, rows: &mut RowCursor<'_>) {
     assert!(rt; unnamed_by_1(rows) == 0);
-    assert!(rt; rows.skip_unnamed(&[2]) == 1 && !has_row(rows));
+    assert!(rt; rows.skip_unnamed(&[2]) == 1);
+    assert!(rt; !has_row(rows));
 }
 
 #[test]
@@ -189,18 +200,24 @@ fn first_meta<'a>(mut metas: MetaCursor<'a>) -> Option<MetaRef<'a>> {
 }
 
 fn is_the_first(rt: &impl Abort, first: &MetaRef<'_>) {
-    assert!(rt; first.actor == &[0xaa][..] && first.seq == 1 && first.max == 1 && first.time == 0);
-    assert!(rt; first.message.is_empty() && first.extra.is_empty());
+    assert!(rt; first.actor == &[0xaa][..]);
+    assert!(rt; first.seq == 1);
+    assert!(rt; first.max == 1);
+    assert!(rt; first.time == 0);
+    assert!(rt; first.message.is_empty());
+    assert!(rt; first.extra.is_empty());
     assert!(rt; first.deps.again().next().is_none());
 }
 
 fn is_the_second(rt: &impl Abort, second: &MetaRef<'_>) {
-    assert!(rt; second.seq == 2 && second.max == 2);
+    assert!(rt; second.seq == 2);
+    assert!(rt; second.max == 2);
 }
 
 fn are_of_the_second(rt: &impl Abort, deps: &mut IndexCursor<'_>) {
     assert!(rt; deps.again().next() == Some(0));
-    assert!(rt; deps.next().is_some() && deps.next().is_none());
+    assert!(rt; deps.next().is_some());
+    assert!(rt; deps.next().is_none());
 }
 
 fn tells_the_first_meta(rt: &impl Abort, metas: &MetaCursor<'_>) {

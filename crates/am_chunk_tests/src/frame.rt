@@ -1,4 +1,6 @@
 //! Chunks that the reference encoder made.
+ghost use Rattle.std.specs.Prelude.{◌<◌};
+
 use am_frame::{FrameFault, framed, next_frame};
 use std::alloc::{AllocError, Global};
 use std::test::Fail;
@@ -10,6 +12,13 @@ const FILE: [u8; 56] = [
     0x01, 0x61, 0x01, 0x7f, 0x01, 0x7f, 0x13, 0x01, 0x7f, 0x00, 0x85, 0x6f, 0x4a, 0x83, 0xb8, 0x1a,
     0x95, 0x44, 0x00, 0x04, 0x00, 0x00, 0x00, 0x00,
 ];
+
+// Whether this is the chunk of the contents.
+fn is_chunk_of(alloc: Global, kind: u8, contents: &[u8], chunk: &[u8]) -> Result<bool, AllocError>
+    requires { kind < 2 }
+{
+    Ok(framed(alloc, kind, contents)?.as_slice() == chunk)
+}
 
 #[test]
 fn reads_and_writes_chunks(rt: HostRuntime) -> Result<(), Fail> {
@@ -23,10 +32,8 @@ fn reads_and_writes_chunks(rt: HostRuntime) -> Result<(), Fail> {
     };
     assert_eq!(rt; document.kind, 0);
     assert_eq!(rt; document.rest.len(), 0);
-    let mut written = Vec::new(rt.alloc());
-    written.extend_from_slice(framed(rt.alloc(), 1, change.contents)?.as_slice())?;
-    written.extend_from_slice(framed(rt.alloc(), 0, document.contents)?.as_slice())?;
-    assert_eq!(rt; written.as_slice(), FILE.as_slice());
+    assert!(rt; is_chunk_of(rt.alloc(), 1, change.contents, &FILE[..42])?);
+    assert!(rt; is_chunk_of(rt.alloc(), 0, document.contents, &FILE[42..])?);
     Ok(())
 }
 

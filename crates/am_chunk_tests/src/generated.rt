@@ -1,9 +1,13 @@
 //! The hashes of generated changes; how many changes and operations are made, what they depend on, and which letters they
 //! insert.
+ghost use Rattle.std.specs.Prelude.{All};
+ghost use Rattle.am_types.specs.Fine.{Fine};
+
 use am_change::with_hashes;
 use am_gen::made;
 use am_types::{Change, Hash, Key, List};
-use std::test::Fail;
+use std::alloc::{AllocError, Global};
+use std::process::Abort;
 
 /// Hashes of generated changes, each at its place, as another program computed them. A hash depends on all changes of the
 /// rounds before, so the last one tells of thirteen.
@@ -78,7 +82,7 @@ fn is_at_front(change: &Change) -> bool {
 const COUNTS: &[(u8, usize)] = &[(0, 0), (1, 2), (4, 11)];
 
 #[test]
-fn counts_are_as_asked(rt: HostRuntime) -> Result<(), Fail> {
+fn counts_are_as_asked(rt: HostRuntime) -> Result<(), AllocError> {
     for &(count, want) in COUNTS {
         let changes = made(rt.alloc(), u64::from(count))?;
         assert_eq!(rt; changes.len(), usize::from(count));
@@ -87,33 +91,44 @@ fn counts_are_as_asked(rt: HostRuntime) -> Result<(), Fail> {
     Ok(())
 }
 
-#[test]
-fn rounds_come_after_each_other(rt: HostRuntime) -> Result<(), Fail> {
-    let alloc = rt.alloc();
-    let list = made(alloc, 5)?;
-    let [zero, one, two, three, four] = list.as_slice() else {
-        assert!(rt; false);
-        return Ok(());
+fn are_rounds(rt: &impl Abort, changes: &[Change]) {
+    let [zero, one, two, three, four] = changes else {
+        panic!(rt; "five changes");
     };
     let counts = [&zero.deps, &one.deps, &three.deps, &four.deps].map(List::len);
     assert_eq!(rt; counts, [0, 1, 1, 3]);
     assert_eq!(rt; (one.seq, two.seq, four.start), (2, 1, 6));
     assert!(rt; is_at_front(one) && !is_at_front(four));
     assert!(rt; inserts(one, b"b") && inserts(three, b"d"));
+}
+
+#[test]
+fn rounds_come_after_each_other(rt: HostRuntime) -> Result<(), AllocError> {
+    let changes = made(rt.alloc(), 5)?;
+    are_rounds(&rt, changes.as_slice());
+    Ok(())
+}
+
+// Whether the change at this place has this hash.
+fn has_hash(pairs: &[(Hash, Change)], place: usize, hash: [u8; 32]) -> bool {
+    match pairs.get(place) {
+        Some(pair) => pair.0 == Hash(hash),
+        None => false,
+    }
+}
+
+fn have_hashes(rt: &impl Abort, alloc: Global, changes: &[Change]) -> Result<(), AllocError>
+    requires { All Fine changes.now }
+{
+    let pairs = with_hashes(alloc, changes)?;
+    for &(place, hash) in HASHES {
+        assert!(rt; has_hash(&pairs, place, hash), "at {place}");
+    }
     Ok(())
 }
 
 #[test]
-fn hashes_are_as_another_program_has_them(rt: HostRuntime) -> Result<(), Fail> {
-    let alloc = rt.alloc();
-    let changes = made(alloc, 14)?;
-    let pairs = with_hashes(alloc, changes.as_slice())?;
-    for (place, hash) in HASHES {
-        let Some(pair) = pairs.get(*place) else {
-            assert!(rt; false);
-            return Ok(());
-        };
-        assert!(rt; pair.0 == Hash(*hash));
-    }
-    Ok(())
+fn hashes_are_as_another_program_has_them(rt: HostRuntime) -> Result<(), AllocError> {
+    let changes = made(rt.alloc(), 14)?;
+    have_hashes(&rt, rt.alloc(), changes.as_slice())
 }

@@ -44,16 +44,20 @@ fn first<'a>(mut ops: OpCursor<'a>) -> Option<OpRef<'a>> {
 fn sets_a(rt: &impl Abort, op: &OpRef<'_>) {
     assert!(rt; matches!(op.obj, ObjRef::Root));
     assert!(rt; matches!(op.key, KeyRef::Name("a")));
-    assert!(rt; !op.insert && !op.expand && op.action == 1 && op.mark.is_none());
-    assert!(rt; op.value.kind == 3 && op.value.raw == &[0x02][..]);
+    assert!(rt; !op.insert);
+    assert!(rt; !op.expand);
+    assert!(rt; op.action == 1);
+    assert!(rt; op.mark.is_none());
+    assert!(rt; op.value.kind == 3);
+    assert!(rt; op.value.raw == &[0x02][..]);
 }
 
 fn is_one_pred(rt: &impl Abort, preds: &mut PredCursor<'_>) {
     let Some(pred) = preds.next() else {
-        assert!(rt; false, "one predecessor is there");
-        return;
+        panic!(rt; "one predecessor is there");
     };
-    assert!(rt; pred.counter == 1 && pred.actor == &[0xaa][..]);
+    assert!(rt; pred.counter == 1);
+    assert!(rt; pred.actor == &[0xaa][..]);
     assert!(rt; preds.next().is_none());
 }
 
