@@ -32,6 +32,14 @@ impl Hints {
         }
     }
 
+    /// The same hints; none without memory.
+    pub fn copy(&self, alloc: Global) -> Hints {
+        match self.numbers.clone() {
+            Ok(numbers) => Hints { numbers },
+            Err(_) => Hints::none(alloc),
+        }
+    }
+
     /// Which number the text may have.
     pub fn of(&self, text: &[u8]) -> usize {
         match self.numbers.get(slot_of(text, self.numbers.len())) {
@@ -40,8 +48,8 @@ impl Hints {
         }
     }
 
-    /// The text has this number. Where there are fewer slots than twice the numbers, all hints are forgotten for twice as many
-    /// slots; without memory they stay as they are.
+    /// The text has this number. Where there are fewer slots than twice the numbers up to it, all hints are forgotten for twice
+    /// as many slots; without memory they stay as they are.
     pub fn remember(&mut self, alloc: Global, text: &[u8], number: usize) {
         if number >= self.numbers.len() / 2 {
             let slots = self.numbers.len().saturating_mul(2).max(FEWEST);

@@ -145,7 +145,7 @@ fn note(
 
 impl Twin for NumberedTexts {
     fn copy(&self, alloc: Global) -> Result<NumberedTexts, AllocError> {
-        let hints = Hints::none(alloc);
+        let hints = self.hints.copy(alloc);
         let texts = self.texts.clone()?;
         let short = self.short.clone()?;
         let long = self.long.clone()?;

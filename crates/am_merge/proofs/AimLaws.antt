@@ -118,13 +118,6 @@ module _ (p : Operation → Named → Bool) (A : List Operation) where
       ap (map (λ (n : Named). n.operation)) (filter-append (p x) ns ms)
       ∙ map-append (λ (n : Named). n.operation) (filter (p x) ns) (filter (p x) ms)
 
-  pub start : AreAims p A [] []
-  start = record {
-    targets = All-nil (λ (a : Aim). a.target < length A);
-    places = All-nil (λ (a : Aim). a.place < length A);
-    tell = λ k x e. refl;
-  }
-
   pub join : (ns ms : List Named) (us vs : List Aim) → AreAims p A ns us → AreAims p A ms vs → AreAims p A (ns ++ ms) (us ++ vs)
   join ns ms us vs h g = record {
     targets = All-append (λ (a : Aim). a.target < length A) us vs h.targets g.targets;

@@ -1,9 +1,9 @@
 -- Who names whom, step by step along the links; and stacks of places.
-use Rattle.std.proofs.Common.{ℕ, ◌≡◌, ◌≢◌, ◌+◌, ◌<◌, ◌==◌, List, [], ◌∷◌, ◌++◌, All, Contains, true, false, drop, filter, get_or, length, map, take, refl, sym, subst, ap, ◌∙◌, inl, inr, append_assoc, drop-cons}
+use Rattle.std.proofs.Common.{ℕ, ◌≡◌, ◌+◌, ◌<◌, ◌==◌, List, [], ◌∷◌, ◌++◌, All, true, false, drop, filter, get_or, length, map, take, refl, sym, subst, ap, ◌∙◌, inl, inr, append_assoc, drop-cons}
 use Rattle.std.specs.List.{AllByRecursion}
 use Rattle.std.proofs.lemmas.Bool.{cases_Bool}
 use Rattle.std.proofs.lemmas.List.{append-nil, drop-map, reverse-append}
-use Rattle.std.proofs.lemmas.List.Elements.{All-append, All-contains, All-from_recursion, Contains-get_or, recursion_from_All}
+use Rattle.std.proofs.lemmas.List.Elements.{All-append, All-from_recursion, recursion_from_All}
 use Rattle.std.proofs.lemmas.List.Sorted.{All-permutation}
 use Rattle.am_types.specs.declared.OpId.{OpId}
 use Rattle.am_types.specs.Operations.{Operation, ascending}
@@ -11,10 +11,8 @@ use Rattle.am_types.specs.Rows.{succs}
 use Rattle.am_types.specs.Order.{sorted_by}
 use Rattle.am_types.proofs.Sorting.{IsPermutation-sorted_by}
 use Rattle.am_places.specs.Numbered.{operation_of}
-use Rattle.am_places.specs.Rising.{HasAt, HasNone, Rise}
 use Rattle.am_places.specs.declared.numbered.Numbered.{Numbered}
 use Rattle.am_places.specs.Sound.{HaveDistinctPreds}
-use Rattle.am_places.proofs.Ascent.{one_operation}
 use Rattle.am_places.proofs.Stable.{sorted_by-map}
 use Rattle.am_merge.specs.Aims.{AreLinked, Tells, means_element, means_id, namers, one_at, picked, places_to, stacked_at}
 use Rattle.am_merge.specs.Buckets.{IsNext, is_in}
@@ -45,14 +43,6 @@ id_in x = x.id
 
 pub one_there : (ns : List Numbered) (k : ℕ) (n : Numbered) → k < length ns → n ≡ get_or ns k n → one_at (map operation_of ns) k ≡ operation_of n ∷ []
 one_there ns k n l is = ap (take 1) (drop-map operation_of k ns ∙ ap (map operation_of) (drop-cons ns k n l)) ∙ ap (λ m. operation_of m ∷ []) (sym is)
-
-pub standing : (A : List Operation) → Rise A → (x : Operation) → Contains A x → (i : OpId) (k : ℕ) → HasAt A i k → x.id ≡ i → one_at A k ≡ x ∷ []
-standing A rise x c i k at e =
-    ap (take 1) (drop-cons A k x at.0)
-    ∙ ap (λ y. y ∷ []) (one_operation A rise (get_or A k x) x (Contains-get_or A k x at.0) c (at.1 x ∙ sym e))
-
-pub absent : (A : List Operation) (x : Operation) (i : OpId) → Contains A x → HasNone A i → x.id ≡ i → ⊥
-absent A x i c none e = All-contains (λ (y : Operation). y.id ≢ i) A x (All-from_recursion (λ (y : Operation). y.id ≢ i) A none) c e
 
 -- ---- stacks
 

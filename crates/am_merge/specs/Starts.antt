@@ -7,8 +7,9 @@
 --                           the lane and the first 62 bits of the name, and behind all these the counters of other objects
 --     key_at x              that of an operation: the lesser key comes first, and where keys are the same, they tell no order
 --     actor_in o            the actor of the object o; the root has none
---     by_placed p q         by_start of two operations beside their places
---     Stands A p            the operation p stands at its place in A
+--     Placed                an operation beside its place
+--     by_placed p q         by_start of two of these
+--     Stands A p            the operation of p stands at the place of p in A
 use Rattle.std.specs.Prelude.{ℕ, ◌≡◌, ◌<◌, ◌+◌, ◌*◌, ◌/◌, ◌^◌, List, [], ◌∷◌, length, min}
 use Rattle.std.specs.Ordering.{nat_cmp, on, then_cmp}
 use Rattle.std.specs.declared.cmp.Ordering.{Ordering}

@@ -17,9 +17,9 @@ use std::alloc::{AllocError, Global};
 use std::cmp::Ordering;
 
 // An actor is looked for among at most so many that came before.
-const FEW: usize = 16;
+const FEW: usize = 8;
 
-// The actor, lent from where it came first: so what is read again and again is at one place.
+// The actor, lent from where it came first if it is remembered: what is read again and again is then at few places.
 fn shared<'a>(seen: &mut Vec<&'a ActorId>, actor: &'a ActorId) -> Result<&'a ActorId, AllocError>
     ensures { IfOk result (λ a. a.now ≡ actor.now) }
 {

@@ -160,7 +160,7 @@ pub fn push_insertion(
     Ok(())
 }
 
-/// The same, if it has a row and is no insertion.
+/// The operation at a place names its element, if it has a row and is no insertion.
 pub fn push_value(
     aims: &mut Vec<Aim>,
     operations: &[Numbered<'_>],
@@ -182,7 +182,7 @@ pub fn push_value(
     push_reference(aims, operations, guide, place)
 }
 
-/// The last of these goes behind the others first.
+/// More aims go behind the others, the last of them first.
 pub fn push_reversed(aims: &mut Vec<Aim>, mut more: Vec<Aim>) -> Result<(), AllocError>
     ensures { OnOk result (aims.new.items ≡ aims.old.items ++ reverse more.items) }
 {

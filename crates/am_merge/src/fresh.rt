@@ -138,6 +138,7 @@ struct Known {
     waiting: Vec<u32>,
 }
 
+// All of it, from one pass.
 fn known_of(alloc: Global, operations: &[Numbered<'_>]) -> Result<Known, AllocError>
     requires rise { Rise (map operation_of operations.now) }
     requires few { length operations.now ≤ 2 ^ 22 }

@@ -26,7 +26,7 @@ pub struct Overview<'t, 'a> {
     pub starts: Vec<Start<'t, 'a>>,
 }
 
-/// Each operation is read once, since there are more of them than are near at one time.
+/// All is taken of an operation while it is at hand: there are too many to stay in a cache until a second pass.
 pub fn look_over<'t, 'a>(
     alloc: Global,
     operations: &'t [Numbered<'a>],
@@ -39,10 +39,11 @@ pub fn look_over<'t, 'a>(
     ensures starts { IfOk result (λ o. map (λ s. s.operation) o.starts.items ≡ filter starts (map operation_of operations.now)) }
     ensures stand { IfOk result (λ o. All (Stands (map operation_of operations.now)) o.starts.items) }
 {
-    let mut named = Vec::new(alloc);
-    let mut hung = Vec::new(alloc);
+    // (room that nothing comes into is never touched, and what grows is copied)
+    let mut named = Vec::with_capacity(alloc, operations.len())?;
+    let mut hung = Vec::with_capacity(alloc, operations.len())?;
     let mut values = Vec::new(alloc);
-    let mut starts = Vec::new(alloc);
+    let mut starts = Vec::with_capacity(alloc, operations.len())?;
     for place in 0..operations.len() {
         push_predecessors(&mut named, operations, guide, place)?;
         push_insertion(&mut hung, operations, guide, place)?;

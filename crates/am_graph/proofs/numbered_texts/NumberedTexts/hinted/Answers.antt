@@ -1,4 +1,4 @@
-use Rattle.std.proofs.Common.{◌≡◌, ◌∙◌, ◌<◌, List, ap, get_or, length, map, subst, sym}
+use Rattle.std.proofs.Common.{◌≡◌, ◌∙◌, ◌<◌, List, ap, get_or, length, subst, sym}
 use Rattle.am_types.proofs.Orders.{same_bytes-true}
 use Rattle.am_graph.specs.Reaches.{number}
 use Rattle.am_graph.proofs.Numbering.{kept_at}
