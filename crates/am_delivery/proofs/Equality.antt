@@ -69,22 +69,22 @@ value-true a b e = let p = and_parts _ _ e in λ i. record { kind = eqb-true a.k
 
 op-true : (a b : Op) → ops.eq-value.it a b ≡ true → a ≡ b
 op-true a b e =
-    let obj = and_parts _ _ e in
+    let preds = and_parts _ _ e in
+    let insert = and_parts _ _ preds.1 in
+    let expand = and_parts _ _ insert.1 in
+    let action = and_parts _ _ expand.1 in
+    let obj = and_parts _ _ action.1 in
     let key = and_parts _ _ obj.1 in
-    let insert = and_parts _ _ key.1 in
-    let action = and_parts _ _ insert.1 in
-    let value = and_parts _ _ action.1 in
-    let preds = and_parts _ _ value.1 in
-    let expand = and_parts _ _ preds.1 in
+    let value = and_parts _ _ key.1 in
     λ i. record {
+      preds = pointwise-true _ id-true a.preds b.preds preds.0 i;
+      insert = beq-true a.insert b.insert insert.0 i;
+      expand = beq-true a.expand b.expand expand.0 i;
+      action = eqb-true a.action b.action action.0 i;
       obj = object-true a.obj b.obj obj.0 i;
       key = key-true a.key b.key key.0 i;
-      insert = beq-true a.insert b.insert insert.0 i;
-      action = eqb-true a.action b.action action.0 i;
       value = value-true a.value b.value value.0 i;
-      preds = pointwise-true _ id-true a.preds b.preds preds.0 i;
-      expand = beq-true a.expand b.expand expand.0 i;
-      mark = mark-true a.mark b.mark expand.1 i;
+      mark = mark-true a.mark b.mark value.1 i;
     }
   where
     mark-true : (o p : Option (List ℕ)) → option_eq (pointwise nat_eq) o p ≡ true → o ≡ p
@@ -158,7 +158,7 @@ op_itself o =
     let preds = pointwise_itself ids.eq-value.it id_itself o.preds in
     let expand = beq_itself o.expand in
     let mark = mark_itself o.mark in
-    and_from _ _ obj (and_from _ _ key (and_from _ _ insert (and_from _ _ action (and_from _ _ value (and_from _ _ preds (and_from _ _ expand mark))))))
+    and_from _ _ preds (and_from _ _ insert (and_from _ _ expand (and_from _ _ action (and_from _ _ obj (and_from _ _ key (and_from _ _ value mark))))))
 
 equals_itself : (c : Change) → changes.eq-value.it c c ≡ true
 equals_itself c =

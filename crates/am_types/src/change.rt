@@ -10,20 +10,20 @@ use crate::value::RawValue;
 /// An operation of a change. Its id follows from its place there. (Automerge Binary Document Format, "operations".)
 #[derive(Debug, PartialEq, Eq, Drop)]
 pub struct Op {
+    /// The operations that it replaces, deletes or adds to.
+    pub preds: List<OpId>,
+    /// Whether it makes a new element.
+    pub insert: bool,
+    /// Whether a mark grows with what is inserted at its end.
+    pub expand: bool,
+    /// 0 makeMap, 1 set, 2 makeList, 3 del, 4 makeText, 5 inc, 6 makeTable, 7 mark.
+    pub action: u8,
     /// The object in which it stands.
     pub obj: ObjId,
     /// The place in the object; of an insertion, the element behind which the new one goes.
     pub key: Key,
-    /// Whether it makes a new element.
-    pub insert: bool,
-    /// 0 makeMap, 1 set, 2 makeList, 3 del, 4 makeText, 5 inc, 6 makeTable, 7 mark.
-    pub action: u8,
     /// The value that it carries: what it sets, or what it adds to a counter.
     pub value: RawValue,
-    /// The operations that it replaces, deletes or adds to.
-    pub preds: List<OpId>,
-    /// Whether a mark grows with what is inserted at its end.
-    pub expand: bool,
     /// The name of a mark.
     pub mark: Option<Text>,
 }
