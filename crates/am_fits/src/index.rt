@@ -61,6 +61,13 @@ impl OpIndex {
         Ok(())
     }
 
+    /// Makes room for so many more operations, so that what is kept of them isn't moved again and again.
+    pub fn reserve(&mut self, operations: usize) -> Result<(), AllocError>
+        ensures { self.new ≡ self.old }
+    {
+        self.table.reserve(operations)
+    }
+
     /// Keeps the changes that were taken in first and have these totals. It takes no memory.
     pub fn cut(&mut self, totals: Totals)
         ensures { (kept others : List AChange) → self.old ≡ index_of (kept ++ others) → totals ≡ totals_of kept → self.new ≡ index_of kept }

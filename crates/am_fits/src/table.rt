@@ -314,6 +314,15 @@ impl Table {
         Ok(())
     }
 
+    /// Makes room for so many more operations.
+    pub fn reserve(&mut self, count: usize) -> Result<(), AllocError>
+        requires { IsTable self.old }
+        ensures table { IsTable self.new }
+        ensures facts { facts_in self.new ≡ facts_in self.old }
+    {
+        self.kept.reserve(count)
+    }
+
     /// Keeps the operations that came first, so many of them.
     pub fn cut(&mut self, count: usize)
         requires { IsTable self.old }
