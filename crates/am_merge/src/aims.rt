@@ -54,6 +54,10 @@ impl Aims {
         requires places { All (λ a. a.place < length operations.now) self.now.aims.items }
         ensures { OnOk result (map id_of ids.new.items ≡ map id_of ids.old.items ++ map (λ x. x.id) (namers (map operation_of operations.now) self.now.aims.items at)) }
     {
+        // (without aims no place is looked up, which would wait for memory)
+        if self.aims.is_empty() {
+            return Ok(());
+        }
         let mut next = self.heads[at];
         while next < self.aims.len() {
             let aim = self.aims[next];
@@ -69,6 +73,9 @@ impl Aims {
         requires at { at < length self.now.heads.items }
         ensures { OnOk result (places.new.items ≡ places.old.items ++ places_to self.now.aims.items at) }
     {
+        if self.aims.is_empty() {
+            return Ok(());
+        }
         let mut next = self.heads[at];
         while next < self.aims.len() {
             let aim = self.aims[next];

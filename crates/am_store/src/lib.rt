@@ -16,6 +16,7 @@ mod lists;
 mod parts;
 mod rebuilding;
 mod report;
+mod room;
 mod saving;
 mod staged_store;
 mod staging;

@@ -32,6 +32,7 @@ use crate::lists::{all_lent, change_at, changes_among, without_hashes};
 use crate::parts::Parts;
 use crate::rebuilding::{listed, rebuilt};
 use crate::report::{Counts, Report, counted};
+use crate::room::with_room;
 use crate::saving::push_chunks;
 use crate::unseen::Unseen;
 use crate::waiting::Waiting;
@@ -234,6 +235,7 @@ impl Store {
         let contents = replace(&mut self.contents, Bytes::new(alloc));
         let graph = replace(&mut self.graph, Graph::new(alloc));
         let index = replace(&mut self.index, OpIndex::new(alloc));
+        let index = with_room(index, changes.as_slice());
         let parts = Parts {
             closed,
             contents,

@@ -29,8 +29,8 @@ kept_of es W = record { closed = members_of es; waiting = W }
 pub over-growing-requires-clause-parts : goal.over-growing-requires-clause-parts
 over-growing-requires-clause-parts c =
     let s = c.self.inside in
-    let same : ◌≡◌ {A = Parts} (record { closed = s.closed; contents = s.contents; graph = s.graph; index = s.index }) (record { closed = c.replace-closed.result; contents = c.replace-contents.result; graph = c.replace-graph.result; index = c.replace-index.result }) =
-    (λ i. record { closed = sym c.replace-closed.ensures.value i; contents = sym c.replace-contents.ensures.value i; graph = sym c.replace-graph.ensures.value i; index = sym c.replace-index.ensures.value i }) in
+    let same : ◌≡◌ {A = Parts} (record { closed = s.closed; contents = s.contents; graph = s.graph; index = s.index }) (record { closed = c.replace-closed.result; contents = c.replace-contents.result; graph = c.replace-graph.result; index = c.with_room.result }) =
+    (λ i. record { closed = sym c.replace-closed.ensures.value i; contents = sym c.replace-contents.ensures.value i; graph = sym c.replace-graph.ensures.value i; index = sym (c.with_room.ensures ∙ c.replace-index.ensures.value) i }) in
     subst (λ (p : Parts). ArePartsOf p.closed.entries p) same (its_parts s c.self.invariant)
 
 pub over-growing-requires-clause-held : goal.over-growing-requires-clause-held
