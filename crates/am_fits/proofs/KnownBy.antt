@@ -16,7 +16,7 @@ use Rattle.am_laws.proofs.Growth.{same_answers}
 use Rattle.am_laws.proofs.Listed.{Facts}
 use Rattle.am_types.proofs.Lists.{Contains-head, Contains-tail}
 use Rattle.am_laws.proofs.DistinctIds.{distinct_ids_of, operation_of, ancestor_is_member}
-use Rattle.am_graph.specs.Clocks.{Covers}
+use Rattle.am_graph.proofs.Covering.{Covers}
 use Rattle.am_graph.proofs.Covered.{covered_is_ancestor, ancestor_is_covered}
 use Rattle.am_fits.specs.Facts.{Fact, fact_of, facts, fact_with}
 

@@ -21,6 +21,7 @@ use Rattle.am_laws.proofs.FirstBad.{finds_first_bad}
 use Rattle.am_laws.proofs.Listed.{Facts}
 use Rattle.am_graph.specs.declared.reach.Reach.{Reach}
 use Rattle.am_graph.specs.Clocks.{covers, IsClockOf}
+use Rattle.am_graph.proofs.Covering.{covered, covering}
 use Rattle.am_fits.specs.Facts.{Fact, fact_of, facts_of}
 use Rattle.am_fits.specs.Told.{Telling, object_by, element_by, good_by, inserts, gives_to, ancestor_fact, own_fact, told, own, IsGoodAt, IsBadAt, IsFirstBad}
 use Rattle.am_fits.proofs.KnownBy.{known_by}
@@ -93,7 +94,7 @@ module _ (C : List Member) (is : Facts C) (c : Change) (clock : List (List ℕ �
   told_is : (k : ℕ) (i : OpId) (p : Fact → Bool) → any_of (known ++ take k (operations c)) i p ≡ told clock fs c k i p
   told_is k i p =
       list_any-append (λ x. same_id x.id i && p (fact_of x)) known (take k (operations c))
-      ∙ (λ j. known_by C is c.deps (covers clock) (λ i. (of.covers i).0) (λ i. (of.covers i).1) i p j || any_own c k i p j)
+      ∙ (λ j. known_by C is c.deps (covers clock) (λ i t. covering (ancestors C c.deps) i (sym (of.covers i) ∙ t)) (λ i v. of.covers i ∙ covered (ancestors C c.deps) i v) i p j || any_own c k i p j)
       ∙ either_way (option_map_or p (ancestor_fact clock fs i) false) (option_map_or p (own_fact c k i) false)
 
   good_is : (k : ℕ) (x : Operation) → has_good_references (known ++ take k (operations c)) x ≡ good_by (told clock fs c k) x

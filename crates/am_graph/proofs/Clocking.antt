@@ -9,11 +9,14 @@ use Rattle.am_types.specs.declared.OpId.{OpId}
 use Rattle.am_types.specs.Same.{same_bytes}
 use Rattle.am_types.specs.Operations.{max}
 use Rattle.am_types.specs.Members.{Member}
+use Rattle.am_types.specs.Clocks as members
 use Rattle.am_laws.proofs.Ancestry.{Contains-filter, Contains-from_filter}
+use Rattle.am_laws.proofs.Growth.{same_answers}
 use Rattle.am_types.proofs.Orders.{same_bytes-true}
 use Rattle.am_graph.specs.declared.reach.Reach.{Reach}
-use Rattle.am_graph.specs.Clocks.{Covers, IsClockOf, covers, reach_of}
+use Rattle.am_graph.specs.Clocks.{IsClockOf, covers, reach_of}
 use Rattle.am_graph.specs.Reaches.{number, end, unreached, reach_at, IsTableOf}
+use Rattle.am_graph.proofs.Covering.{Covers, covered, covering}
 use Rattle.am_graph.proofs.Depths.{largest_is}
 use Rattle.am_graph.proofs.Growing.{number_at}
 use Rattle.am_graph.proofs.Naming.{place, place_is}
@@ -80,7 +83,7 @@ module _ (authors : List (List ℕ)) (A : List Member) (T : List Reach) (table :
 
   pub clock_is : IsClockOf A (zip authors T)
   clock_is = record {
-    covers = λ i. (covers_only i, covers_all i);
+    covers = λ i. same_answers (covers (zip authors T) i) (members.covers A i) (λ t. covered A i (covers_only i t)) (λ t. covers_all i (covering A i t));
     last_seq = λ x. sym (largest_is (map (λ m. m.change.seq) (filter (λ m. same_bytes m.change.actor x) A)) (reach_of (zip authors T) x).seq
         (all_mapped (filter (λ m. same_bytes m.change.actor x) A) (reach_of (zip authors T) x).seq (λ m c.
         let is = Contains-from_filter (λ m. same_bytes m.change.actor x) A m c in

@@ -7,7 +7,7 @@ use Rattle.am_types.specs.Members.{Member}
 use Rattle.am_types.specs.Ancestors.{ancestors}
 use Rattle.am_laws.proofs.Listed.{Facts}
 use Rattle.am_laws.proofs.DistinctIds.{numbered_at, later_starts_above, earlier, ancestors_trans, ancestor_is_member}
-use Rattle.am_graph.specs.Clocks.{Covers}
+use Rattle.am_graph.proofs.Covering.{Covers}
 
 -- an operation's counter lies between its change's start and end
 pub op_within : (m : Member) (x : Operation) → Contains (operations m.change) x → (x.id.actor ≡ m.change.actor) × (m.change.start ≤ x.id.counter) × (x.id.counter ≤ max m.change)

@@ -2,6 +2,7 @@ pub mod Joining
 pub mod Clocking
 pub mod Copying
 pub mod Covered
+pub mod Covering
 pub mod Shorter
 pub mod Depths
 pub mod DistinctSeqs

@@ -7,7 +7,8 @@ ghost use Rattle.am_types.specs.Operations.{Operation, operations};
 ghost use Rattle.am_types.specs.ValidSets.{Valid};
 ghost use Rattle.am_types.specs.Views.{id_of};
 ghost use Rattle.am_types.specs.declared.Hash.{Hash};
-ghost use Rattle.am_graph.specs.Clocks.{Covers, IsClockOf, covers, reach_of};
+ghost use Rattle.am_types.specs.Clocks.{covers as members_cover};
+ghost use Rattle.am_graph.specs.Clocks.{IsClockOf, covers, reach_of};
 ghost use Rattle.am_graph.specs.Graphs.{is_held, missing, ForSet, MatchFault};
 
 use crate::fault::ClockFault;
@@ -142,5 +143,5 @@ fn reach_of(authors: &NumberedTexts, table: &[Reach], actor: &[u8]) -> Reach
 /// In a valid set a clock of the ancestors of some heads covers an operation's id exactly where its change is one of
 /// these ancestors.
 pub fn covers_ancestors_alone()
-    ensures { (C : List Member) → Valid C → (hs : List Hash) → (m : Member) → Contains C m → (x : Operation) → Contains (operations m.change) x → Covers (ancestors C hs) x.id ↔ Contains (ancestors C hs) m }
+    ensures { (C : List Member) → Valid C → (hs : List Hash) → (m : Member) → Contains C m → (x : Operation) → Contains (operations m.change) x → IsTrue (members_cover (ancestors C hs) x.id) ↔ Contains (ancestors C hs) m }
 {}
