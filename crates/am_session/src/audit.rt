@@ -13,6 +13,7 @@ use crate::replies::unknown;
 use am_delivery::part_is_valid;
 use am_graph::ClockFault;
 use am_json::{Form, LentJsonMaker, order_front};
+use am_laws::listing_is_free;
 use am_replay::{entries_are_in_order, replay};
 use am_store::Store;
 use am_types::{Bytes, Change, Entry, Hash};
@@ -45,6 +46,7 @@ fn replayed(alloc: Global, changes: &[Change]) -> Result<Bytes, AllocError>
 fn audit_at(alloc: Global, hashes: &[Hash], store: &Store) -> Result<Bytes, AllocError>
     ensures { IfOk result (λ reply. reply ≡ reading_at Winners hashes.now store.now.closed) }
 {
+    listing_is_free();
     part_is_valid();
     let _graph = store.graph();
     match store.ancestors(alloc, hashes) {

@@ -6,7 +6,7 @@ use Rattle.std.specs.declared.cmp.Ordering.TheVariants.{Less}
 use Rattle.std.proofs.lemmas.Bool.{both_ways}
 use Rattle.std.proofs.lemmas.List.{map-append, take_more, length-map}
 use Rattle.std.proofs.lemmas.List.Elements.{filter_agree, filter-append, All-contains}
-use Rattle.std.proofs.lemmas.List.Sorted.{Contains-permutation, list_any-IsPermutation, IsPermutation-sym}
+use Rattle.std.proofs.lemmas.List.Sorted.{Contains-permutation, list_any-IsPermutation, IsPermutation-map, IsPermutation-sym}
 use Rattle.std.proofs.lemmas.Map.Keys.{sorted_head, sorted_tail}
 use Rattle.std.proofs.lemmas.Option.{slice_get-map, slice_get-get_or}
 use Rattle.am_types.specs.declared.Hash.{Hash}
@@ -18,7 +18,9 @@ use Rattle.am_types.specs.Ancestors.{ancestors}
 use Rattle.am_types.specs.Canonical.{canonical_cmp, order}
 use Rattle.am_types.specs.Deliver.{MayCome}
 use Rattle.am_types.specs.Fine.{Fine}
+use Rattle.am_types.specs.ValidSets.{Valid}
 use Rattle.am_types.proofs.Sorting.{IsPermutation-sorted_by}
+use Rattle.am_laws.specs.Laws.{ListingIsFree, SortingIsFree}
 use Rattle.am_laws.proofs.SharedAncestors.{ancestors_keep_order}
 use Rattle.am_change.specs.Contents.{chunk}
 use Rattle.am_graph.specs.declared.Node.{Node}
@@ -131,6 +133,15 @@ of_ancestors C heads hs e =
     let A : List Member = ancestors C heads in
     let tests : (m : Member) → among hash_cmp hs m.hash ≡ holds A m.hash = λ m. ap (λ l. among hash_cmp l m.hash) e ∙ sym (list_any-IsPermutation (same hash_cmp m.hash) (hashes A) (sorted_by hash_cmp (hashes A)) (IsPermutation-sorted_by hash_cmp (hashes A))) in
     filter_agree (λ (m : Member). among hash_cmp hs m.hash) (λ (m : Member). holds A m.hash) tests C ∙ sym (ancestors_keep_order C heads)
+
+-- and in canonical order
+pub of_ordered : SortingIsFree → ListingIsFree → (C : List Member) → Valid C → (heads found_hashes : List Hash) → found_hashes ≡ sorted_by hash_cmp (hashes (ancestors C heads))
+    → filter (λ m. among hash_cmp found_hashes m.hash) (order C) ≡ ancestors (order C) heads
+unfolding order
+of_ordered sorts law C v heads hs e =
+    let seen = (law C (order C) v (IsPermutation-sorted_by (canonical_cmp C) C)).at heads in
+    let same = IsPermutation-map (λ (m : Member). m.hash) (ancestors C heads) (ancestors (order C) heads) seen.members in
+    of_ancestors (order C) heads hs (e ∙ sym (sorts.1.0.once (hashes (ancestors C heads)) (hashes (ancestors (order C) heads)) same))
 
 pub more_among : (hs : List Hash) (es : List (Hash × Change)) (i : ℕ) (d : Hash × Change) → i < length es → (b : Bool) → among hash_cmp hs (get_or es i d).0 ≡ b → (cs ds : List Change)
     → cs ≡ changes (filter (λ m. among hash_cmp hs m.hash) (members_of (take i es))) → ds ≡ Rattle.std.proofs.Common.cond b (cs ++ (get_or es i d).1 ∷ []) cs

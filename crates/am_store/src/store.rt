@@ -42,7 +42,7 @@ use am_doc::DocRef;
 use am_fits::OpIndex;
 use am_frame::framed;
 use am_graph::{ClockFault, Graph};
-use am_laws::valid_sets_keep_rules;
+use am_laws::{sorting_is_free, valid_sets_keep_rules};
 use am_merge::respelled;
 use am_types::{Bytes, Change, Hash, List, Twin};
 use std::alloc::{AllocError, Global};
@@ -363,14 +363,16 @@ impl Store {
         Ok(Some(chunk_of(alloc, change)?))
     }
 
-    /// The changes with these hashes and their ancestors, in the order in which the closed set is listed.
+    /// The changes with these hashes and their ancestors, in canonical order.
     pub fn ancestors(&self, alloc: Global, heads: &[Hash]) -> Result<List<Change>, ClockFault>
-        ensures ok { IfOk result (λ list. list ≡ changes (ancestors self.now.closed heads.now)) }
+        ensures ok { IfOk result (λ list. list ≡ changes (ancestors (order self.now.closed) heads.now)) }
         ensures held { OnOk result (All (λ h. holds self.now.closed h ≡ true) heads.now) }
         ensures unknown { IfErr result (λ fault. MatchFault fault (λ h. find (λ k. not (holds self.now.closed k)) heads.now ≡ Some h)) }
     {
+        sorting_is_free();
+        am_laws::listing_is_free();
         let hashes = self.graph.ancestors(alloc, heads)?;
-        let entries = listed(alloc, &self.graph, self.contents.as_slice())?;
+        let entries = rebuilt(alloc, self.contents.as_slice())?;
         let list = changes_among(alloc, entries.as_slice(), hashes.as_slice())?;
         Ok(list)
     }
