@@ -1,7 +1,8 @@
 -- What a delivery adds to the map of the waiting changes.
 use Rattle.std.proofs.Common.{arith, length, get_or, All, ◌≡◌, Bool, cond, List, [], ◌∷◌, ◌++◌, true, false, Option, Some, None, option_map, refl, sym, ap, ◌∙◌, subst, inl, inr, IsPermutation}
+use Rattle.std.specs.Global.{Box}
 use Rattle.std.specs.Option.{option_or}
-use Rattle.std.specs.BTreeMap.{BTreeMap, get, is_at, insert_entry}
+use Rattle.std.specs.BTreeMap.{BTreeMap, is_at, insert_entry}
 use Rattle.std.specs.Map.{lookup}
 use Rattle.std.specs.Ordering.{is_eq, match_ordering}
 use Rattle.std.specs.declared.cmp.Ordering.{Ordering}
@@ -22,7 +23,8 @@ use Rattle.std.proofs.lemmas.List.Elements.{All-nil, All-cons, All-contains, Con
 use Rattle.am_delivery.proofs.Lists.{Contains-here}
 use Rattle.am_delivery.proofs.Steady.{Steady, steady_all, absent}
 use Rattle.am_delivery.proofs.Alikeness.{receive_alike}
-use Rattle.am_delivery.specs.Waiting.{member_of, members_of, waiting_of}
+use Rattle.am_delivery.specs.Waiting.{member_of, members_of, unboxed, waiting_of}
+use Rattle.am_delivery.proofs.Boxes.{change_at, unboxed_lookup}
 
 -- ---- the map
 
@@ -35,6 +37,10 @@ looked_up [] h = refl
 looked_up (e ∷ es) h =
     let again : lookup (is_at (hash_cmp h)) es ≡ option_map (λ (m : Member). m.change) (member (members_of es) h) = looked_up es h in
     elim (cases_Bool (same hash_cmp h e.0)) [ inl t ↦ simp t refl | inr f ↦ simp f again ]
+
+-- so does one among the boxes
+pub looked_in : (w : BTreeMap Hash (Box Change)) (h : Hash) → change_at w h ≡ option_map (λ (m : Member). m.change) (member (waiting_of w) h)
+looked_in w h = sym (unboxed_lookup w h) ∙ looked_up (unboxed w.entries) h
 
 pub both : (C W : List Member) (h : Hash) → member (C ++ W) h ≡ option_or (member C h) (member W h)
 both C W h = find-append (λ (m : Member). same hash_cmp h m.hash) C W
@@ -59,13 +65,13 @@ module _ (h : Hash) (c : Change) where
   placed [] e = IsPermutation-refl ((h, c) ∷ [])
   placed (d ∷ es) e = placed_by (hash_cmp h d.0) d es refl e (placed es)
 
-  pub joined_waiting : (w v : BTreeMap Hash Change) → get hash_cmp w h ≡ None → v.entries ≡ insert_entry hash_cmp w.entries h c
+  pub joined_waiting : (w v : BTreeMap Hash (Box Change)) → change_at w h ≡ None → unboxed v.entries ≡ insert_entry hash_cmp (unboxed w.entries) h c
       → IsPermutation (waiting_of w ++ record { hash = h; change = c } ∷ []) (waiting_of v)
   joined_waiting w v none e =
       IsPermutation-trans (waiting_of w ++ record { hash = h; change = c } ∷ []) (record { hash = h; change = c } ∷ waiting_of w) (waiting_of v)
       (IsPermutation-to_front (waiting_of w) (record { hash = h; change = c }))
       (subst (λ es. IsPermutation (record { hash = h; change = c } ∷ waiting_of w) (members_of es)) (sym e)
-      (IsPermutation-map member_of ((h, c) ∷ w.entries) (insert_entry hash_cmp w.entries h c) (placed w.entries none)))
+      (IsPermutation-map member_of ((h, c) ∷ unboxed w.entries) (insert_entry hash_cmp (unboxed w.entries) h c) (placed (unboxed w.entries) (unboxed_lookup w h ∙ none))))
 
 pub receive-append : (s : Sets) (L M : List Member) → receive s (L ++ M) ≡ receive (receive s L) M
 receive-append s [] M = refl
@@ -123,8 +129,8 @@ is_fresh C W h c e = absent W h (none_second (member C h) (member W h) (sym (bot
 
 -- ---- one change
 
-pub alike_new : (C : List Member) (w v : BTreeMap Hash Change) (R : List Rejected) (h : Hash) (c : Change)
-    → None ≡ option_map (equals c) (member (C ++ waiting_of w) h) → v.entries ≡ insert_entry hash_cmp w.entries h c
+pub alike_new : (C : List Member) (w v : BTreeMap Hash (Box Change)) (R : List Rejected) (h : Hash) (c : Change)
+    → None ≡ option_map (equals c) (member (C ++ waiting_of w) h) → unboxed v.entries ≡ insert_entry hash_cmp (unboxed w.entries) h c
     → Alike (receive (record { closed = C; waiting = waiting_of w; rejected = R }) (record { hash = h; change = c } ∷ [])) (record { closed = C; waiting = waiting_of v; rejected = R })
 alike_new C w v R h c none e =
     let m : Member = record { hash = h; change = c } in
@@ -132,7 +138,7 @@ alike_new C w v R h c none e =
     let t : Sets = record { closed = C; waiting = waiting_of v; rejected = R } in
     let absent : member (C ++ waiting_of w) h ≡ None = is_none c (member (C ++ waiting_of w) h) none in
     let alone : member (waiting_of w) h ≡ None = none_second (member C h) (member (waiting_of w) h) (sym (both C (waiting_of w) h) ∙ absent) in
-    let unlisted : get hash_cmp w h ≡ None = looked_up w.entries h ∙ ap (option_map change_of) alone in
+    let unlisted : change_at w h ≡ None = looked_in w h ∙ ap (option_map change_of) alone in
     let grown : Alike (receive_by None m s) t = record { closed = IsPermutation-refl C; waiting = joined_waiting h c w v unlisted e; rejected = refl } in
     subst (λ o. Alike (receive_by o m s) t) (sym absent) grown
 

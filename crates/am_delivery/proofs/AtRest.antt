@@ -1,6 +1,7 @@
 -- The changes that have joined, lent from the waiting ones.
 use Rattle.std.proofs.Common.{◌≡◌, List, [], ◌∷◌, ◌++◌, map, Option, Some, None, option_map, refl, sym, ap, ◌∙◌, All, Contains, BTreeMap, Bor}
-use Rattle.std.specs.BTreeMap.{get, IsOrdered}
+use Rattle.std.specs.Global.{Box}
+use Rattle.std.specs.BTreeMap.{IsOrdered}
 use Rattle.std.proofs.lemmas.Bool.{both_ways}
 use Rattle.std.proofs.lemmas.List.{map-append}
 use Rattle.std.proofs.lemmas.List.Elements.{All-contains}
@@ -13,8 +14,9 @@ use Rattle.am_types.proofs.Orders.{same_hash-true, same_hash_itself}
 use Rattle.am_delivery.specs.Waiting.{waiting_of, taken_out, AreLent}
 use Rattle.am_delivery.proofs.Lists.{Within, Contains-here, Contains-later, found_is, find_none, any_none}
 use Rattle.am_delivery.proofs.Members.{Unique, unique}
+use Rattle.am_delivery.proofs.Boxes.{change_at}
 use Rattle.am_delivery.proofs.Steps.{distinct}
-use Rattle.am_delivery.proofs.Arrivals.{looked_up}
+use Rattle.am_delivery.proofs.Arrivals.{looked_in}
 use Rattle.am_delivery.proofs.TakenOut.{taken_within}
 
 some_once : {X : Type 0} (xs ys : List X) → map (λ x. Some x) xs ≡ map (λ x. Some x) ys → xs ≡ ys
@@ -46,7 +48,7 @@ all_found C one (m ∷ xs) w =
     λ i. here i ∷ again i
 
 -- those with the hashes hs are taken out, one for each hash
-module _ (w : BTreeMap Hash Change) (ordered : IsOrdered hash_cmp w) (hs : List Hash) (named : hashes (taken_out hs (waiting_of w)) ≡ hs) where
+module _ (w : BTreeMap Hash (Box Change)) (ordered : IsOrdered hash_cmp w) (hs : List Hash) (named : hashes (taken_out hs (waiting_of w)) ≡ hs) where
   abbrev out : List Member
   out = taken_out hs (waiting_of w)
 
@@ -65,10 +67,10 @@ lent_some [] = refl
 lent_some (c ∷ cs) = ap (λ l. Some c.now ∷ l) (lent_some cs)
 
 -- one more is lent
-pub lent_more : (w : BTreeMap Hash Change) (old new : List (Bor Change)) (hs ks : List Hash) (h : Hash) (c : Bor Change) → new ≡ old ++ c ∷ [] → ks ≡ hs ++ h ∷ [] → Some c.now ≡ get hash_cmp w h
+pub lent_more : (w : BTreeMap Hash (Box Change)) (old new : List (Bor Change)) (hs ks : List Hash) (h : Hash) (c : Bor Change) → new ≡ old ++ c ∷ [] → ks ≡ hs ++ h ∷ [] → Some c.now ≡ change_at w h
     → AreLent old hs (waiting_of w) → AreLent new ks (waiting_of w)
 lent_more w old new hs ks h c n k e had =
-    let last : Some c.now ≡ found (waiting_of w) h = e ∙ looked_up w.entries h in
+    let last : Some c.now ≡ found (waiting_of w) h = e ∙ looked_in w h in
     ap (map (λ (x : Bor Change). Some x.now)) n ∙ map-append (λ (x : Bor Change). Some x.now) old (c ∷ [])
     ∙ (λ i. had i ++ last i ∷ [])
     ∙ sym (map-append (found (waiting_of w)) hs (h ∷ [])) ∙ ap (map (found (waiting_of w))) (sym k)

@@ -1,5 +1,6 @@
 -- The waiting changes of a map enter the tracker one by one.
 use Rattle.std.proofs.Common.{ℕ, ◌≡◌, ◌↔◌, ◌⊎◌, ◌==◌, ◌&&◌, ◌||◌, List, [], ◌∷◌, ◌++◌, length, map, filter, true, false, sym, ap, ◌∙◌, subst, inl, inr, Contains, BTreeSet, BTreeMap}
+use Rattle.std.specs.Global.{Box}
 use Rattle.std.specs.BTreeMap.{IsOrdered}
 use Rattle.std.specs.BTreeSet.{contains}
 use Rattle.std.proofs.lemmas.Bool.{or_cases, and_parts, and_from, or_left, or_right, eqb-true, eq-eqb}
@@ -12,7 +13,7 @@ use Rattle.am_types.specs.Fine.{Fine}
 use Rattle.am_types.specs.Members.{Member, holds}
 use Rattle.am_types.proofs.Orders.{hash_total, hash_exact, same_hash-true, same_hash_itself}
 use Rattle.am_delivery.specs.Tracking.{Tracker, Tracks}
-use Rattle.am_delivery.specs.Waiting.{member_of, members_of, waiting_of}
+use Rattle.am_delivery.specs.Waiting.{member_of, members_of, unboxed, waiting_of}
 use Rattle.am_delivery.proofs.Members.{Once, fresh_from_once, once_from_distinct}
 use Rattle.am_delivery.proofs.Tracking.{deps_apart, enters_tracks}
 use Rattle.am_delivery.proofs.Entering.{absent, enters}
@@ -35,7 +36,7 @@ module _ (old new : BTreeSet Hash) (h : Hash) (n : ℕ) (says : (g : Hash) → c
       )
 
 -- the next entry of an ordered map is fresh among those before it
-pub next_is_fresh : (w : BTreeMap Hash Change) → IsOrdered hash_cmp w → (ys rest : List (Hash × Change)) (x : Hash × Change) → w.entries ≡ ys ++ x ∷ rest → holds (members_of ys) x.0 ≡ false
+pub next_is_fresh : (w : BTreeMap Hash (Box Change)) → IsOrdered hash_cmp w → (ys rest : List (Hash × Change)) (x : Hash × Change) → unboxed w.entries ≡ ys ++ x ∷ rest → holds (members_of ys) x.0 ≡ false
 next_is_fresh w ordered ys rest x e =
     let split : waiting_of w ≡ members_of ys ++ member_of x ∷ members_of rest = ap members_of e ∙ map-append member_of ys (x ∷ rest) in
     fresh_from_once (members_of ys) (member_of x) (members_of rest) (subst Once split (once_from_distinct (waiting_of w) (distinct w ordered)))

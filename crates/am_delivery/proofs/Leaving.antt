@@ -1,5 +1,6 @@
 -- Waiting changes without those whose hashes were put down.
 use Rattle.std.proofs.Common.{ℕ, ◌≡◌, ◌<◌, ◌+◌, ◌||◌, length, take, get_or, List, [], ◌∷◌, ◌++◌, filter, Bool, true, false, not, refl, sym, ap, ◌∙◌, subst, inl, inr, IsPermutation, BTreeMap}
+use Rattle.std.specs.Global.{Box}
 use Rattle.std.specs.BTreeMap.{insert_entry, is_at, IsOrdered}
 use Rattle.std.specs.Map.{remove_entry}
 use Rattle.std.specs.Ordering.{is_eq, match_ordering}
@@ -17,7 +18,7 @@ use Rattle.am_types.specs.Deliver.{without}
 use Rattle.am_laws.proofs.Ancestry.{Contains-from_filter}
 use Rattle.am_types.proofs.Orders.{same_hash-true, same_hash_itself}
 use Rattle.am_delivery.specs.Tracking.{Tracker, Tracks}
-use Rattle.am_delivery.specs.Waiting.{member_of, members_of, waiting_of, remaining}
+use Rattle.am_delivery.specs.Waiting.{member_of, members_of, unboxed, waiting_of, remaining}
 use Rattle.am_delivery.proofs.Lists.{same_truth, Contains-here, Within-permutation, Within-permutation_back}
 use Rattle.am_delivery.proofs.Members.{among_from, not_held_within, holds_within}
 use Rattle.am_delivery.proofs.Steps.{without_none, removed}
@@ -85,20 +86,20 @@ filters_turned p q (m ∷ W) =
     ]
 
 -- one more hash is put down in the first list
-pub gone_first : (w : BTreeMap Hash Change) (hs gs new : List Hash) (h : Hash) → new ≡ hs ++ h ∷ [] → remaining (new ++ gs) (waiting_of w) ≡ without h (remaining (hs ++ gs) (waiting_of w))
+pub gone_first : (w : BTreeMap Hash (Box Change)) (hs gs new : List Hash) (h : Hash) → new ≡ hs ++ h ∷ [] → remaining (new ++ gs) (waiting_of w) ≡ without h (remaining (hs ++ gs) (waiting_of w))
 gone_first w hs gs new h e =
     let W : List Member = waiting_of w in
     ap (λ l. remaining (l ++ gs) W) e ∙ sym (remaining_both (hs ++ h ∷ []) gs W) ∙ ap (remaining gs) (remaining_more hs h W)
     ∙ filters_turned (λ m. not (among hash_cmp gs m.hash)) (λ m. not (same hash_cmp h m.hash)) (remaining hs W) ∙ ap (without h) (remaining_both hs gs W)
 
 -- or in the second
-pub gone_second : (w : BTreeMap Hash Change) (hs gs new : List Hash) (h : Hash) → new ≡ gs ++ h ∷ [] → remaining (hs ++ new) (waiting_of w) ≡ without h (remaining (hs ++ gs) (waiting_of w))
+pub gone_second : (w : BTreeMap Hash (Box Change)) (hs gs new : List Hash) (h : Hash) → new ≡ gs ++ h ∷ [] → remaining (hs ++ new) (waiting_of w) ≡ without h (remaining (hs ++ gs) (waiting_of w))
 gone_second w hs gs new h e =
     let W : List Member = waiting_of w in
     ap (λ l. remaining (hs ++ l) W) e ∙ sym (remaining_both hs (gs ++ h ∷ []) W) ∙ remaining_more gs h (remaining hs W) ∙ ap (without h) (remaining_both hs gs W)
 
 -- the changes with some hashes are taken out one by one
-pub removed_next : (W : List Member) (w v : BTreeMap Hash Change) (hs : List Hash) (i : ℕ) (d : Hash) → i < length hs → waiting_of w ≡ remaining (take i hs) W → IsOrdered hash_cmp w
+pub removed_next : (W : List Member) (w v : BTreeMap Hash (Box Change)) (hs : List Hash) (i : ℕ) (d : Hash) → i < length hs → waiting_of w ≡ remaining (take i hs) W → IsOrdered hash_cmp w
     → v.entries ≡ remove_entry (is_at (hash_cmp (get_or hs i d))) w.entries → waiting_of v ≡ remaining (take (i + 1) hs) W
 removed_next W w v hs i d l had ordered e =
     removed w ordered (get_or hs i d) v e ∙ ap (without (get_or hs i d)) had ∙ sym (remaining_more (take i hs) (get_or hs i d) W) ∙ ap (λ gs. remaining gs W) (sym (take_more hs i d l))
@@ -123,11 +124,11 @@ module _ (p : Member → Bool) (h : Hash) (c : Change) (fails : (d : Change) →
   dropped (e ∷ es) n = dropped_by (hash_cmp h e.0) e es refl n (dropped es)
 
 -- a change that came and whose hash was put down
-pub remaining_inserted : (hs : List Hash) (w : BTreeMap Hash Change) (es : List (Hash × Change)) (h : Hash) (c : Change) → holds (waiting_of w) h ≡ false → es ≡ insert_entry hash_cmp w.entries h c
+pub remaining_inserted : (hs : List Hash) (w : BTreeMap Hash (Box Change)) (es : List (Hash × Change)) (h : Hash) (c : Change) → holds (waiting_of w) h ≡ false → es ≡ insert_entry hash_cmp (unboxed w.entries) h c
     → remaining (hs ++ h ∷ []) (members_of es) ≡ remaining hs (waiting_of w)
 remaining_inserted hs w es h c n e =
     let there : among hash_cmp (hs ++ h ∷ []) h ≡ true = among_from (hs ++ h ∷ []) h (Contains-append_right hs (h ∷ []) h (Contains-here h [])) in
-    ap (λ fs. remaining (hs ++ h ∷ []) (members_of fs)) e ∙ dropped (λ m. not (among hash_cmp (hs ++ h ∷ []) m.hash)) h c (λ d. ap not there) w.entries n ∙ remaining_absent hs h (waiting_of w) n
+    ap (λ fs. remaining (hs ++ h ∷ []) (members_of fs)) e ∙ dropped (λ m. not (among hash_cmp (hs ++ h ∷ []) m.hash)) h c (λ d. ap not there) (unboxed w.entries) n ∙ remaining_absent hs h (waiting_of w) n
 
 -- what is tracked doesn't depend on how the waiting changes are listed
 pub tracks_permuted : (C V W : List Member) (t : Tracker) → IsPermutation V W → Tracks C V t → Tracks C W t

@@ -1,5 +1,7 @@
 -- One step of settling, as the map of the waiting changes and the tracker have it.
-use Rattle.std.proofs.Common.{get_or, ℕ, count_by, ◌≤◌, ◌≡◌, ◌≢◌, List, [], ◌∷◌, ◌++◌, map, true, false, not, Option, Some, None, refl, sym, ap, ◌∙◌, subst, inl, inr, All, Contains}
+use Rattle.std.proofs.Common.{get_or, ℕ, count_by, ◌≤◌, ◌≡◌, ◌≢◌, List, [], ◌∷◌, ◌++◌, map, true, false, not, Option, Some, None, refl, sym, ap, ◌∙◌, subst, inl, inr, All, Contains, option_map}
+use Rattle.std.specs.Global.{Box}
+use Rattle.std.specs.Box.{box_value}
 use Rattle.std.specs.BTreeMap.{BTreeMap, get, is_at, IsOrdered}
 use Rattle.std.specs.Map.{keys_of, remove_entry}
 use Rattle.std.specs.Ordering.{is_gt}
@@ -28,7 +30,8 @@ use Rattle.am_delivery.proofs.Members.{Distinct, from_among, distinct_filter}
 use Rattle.am_delivery.proofs.Settling.{first_ready, waits_still, fresh_push}
 use Rattle.am_delivery.proofs.Steady.{valid_push}
 use Rattle.am_delivery.proofs.Tracking.{strict_no_repeat, IsNext, least_is_next, takes_tracks, releases_tracks, enough_missing}
-use Rattle.am_delivery.specs.Waiting.{member_of, waiting_of, remaining}
+use Rattle.am_delivery.specs.Waiting.{member_of, out_of_box, unboxed, waiting_of, remaining}
+use Rattle.am_delivery.proofs.Boxes.{change_at, unboxed_keys, unboxed_remove}
 
 -- ---- the map
 
@@ -58,17 +61,19 @@ remove_is h (e ∷ es) d =
       | inr f ↦ simp f (ap (λ l. member_of e ∷ l) again)
     ]
 
-module _ (w : BTreeMap Hash Change) (ordered : IsOrdered hash_cmp w) where
+module _ (w : BTreeMap Hash (Box Change)) (ordered : IsOrdered hash_cmp w) where
   pub distinct : Distinct (waiting_of w)
-  distinct = distinct_from_hashes (waiting_of w) (subst NoRepeat (sym (hashes_are w.entries)) (strict_no_repeat (keys_of w.entries) ordered))
+  distinct = distinct_from_hashes (waiting_of w) (subst NoRepeat (sym (hashes_are (unboxed w.entries) ∙ unboxed_keys w.entries)) (strict_no_repeat (keys_of w.entries) ordered))
 
-  pub removed : (h : Hash) (v : BTreeMap Hash Change) → v.entries ≡ remove_entry (is_at (hash_cmp h)) w.entries → waiting_of v ≡ without h (waiting_of w)
-  removed h v e = ap (map member_of) e ∙ remove_is h w.entries distinct
+  pub removed : (h : Hash) (v : BTreeMap Hash (Box Change)) → v.entries ≡ remove_entry (is_at (hash_cmp h)) w.entries → waiting_of v ≡ without h (waiting_of w)
+  removed h v e = ap (λ es. map member_of (unboxed es)) e ∙ ap (map member_of) (unboxed_remove (is_at (hash_cmp h)) w.entries) ∙ remove_is h (unboxed w.entries) distinct
 
-  pub found : (m : Member) → Contains (waiting_of w) m → get hash_cmp w m.hash ≡ Some m.change
+  pub found : (m : Member) → Contains (waiting_of w) m → change_at w m.hash ≡ Some m.change
   found m c =
-      let e = Contains-from_map member_of w.entries m c in
-      (btree_map_get_iff hash_total hash_exact w ordered m.hash m.change).1 (subst (Contains w.entries) (ap (λ (k : Member). (k.hash, k.change)) e.2) e.1)
+      let e = Contains-from_map member_of (unboxed w.entries) m c in
+      let b = Contains-from_map out_of_box w.entries e.0 e.1 in
+      let there = (btree_map_get_iff hash_total hash_exact w ordered b.0.0 b.0.1).1 b.1 in
+      subst (λ (k : Member). change_at w k.hash ≡ Some k.change) (ap member_of b.2 ∙ e.2) (ap (option_map box_value) there)
 
 -- ---- the step
 
@@ -78,7 +83,7 @@ pub record Turn (C W : List Member) (m : Member) : Type 0 where
   pub deps : holds_deps C m.change ≡ true
   pub first : ready C W ≡ m ∷ ready C (without m.hash W)
 
-module _ (C : List Member) (w : BTreeMap Hash Change) (ordered : IsOrdered hash_cmp w) (gone : List Hash) (t u : Tracker) (tracks : Tracks C (remaining gone (waiting_of w)) t)
+module _ (C : List Member) (w : BTreeMap Hash (Box Change)) (ordered : IsOrdered hash_cmp w) (gone : List Hash) (t u : Tracker) (tracks : Tracks C (remaining gone (waiting_of w)) t)
     (waiting : All (Waits C) (remaining gone (waiting_of w)))
     (h : Hash) (first : t.ready ≡ h ∷ u.ready) (above : All (λ g. hash_cmp h g ≡ Less) u.ready) (counts : u.missing ≡ t.missing) (names : u.waiting_for ≡ t.waiting_for) where
   abbrev W : List Member
@@ -103,15 +108,15 @@ module _ (C : List Member) (w : BTreeMap Hash Change) (ordered : IsOrdered hash_
   next = least_is_next C W t tracks apart h (subst (λ l. Contains l h) (sym first) (Contains-here h u.ready)) least
 
   -- the change that is found there is the first ready one
-  pub change_is : (o : Option Change) → o ≡ get hash_cmp w h → o ≡ Some next.next.change
-  change_is o e = e ∙ ap (get hash_cmp w) (sym next.hash) ∙ found w ordered next.next (Contains-from_filter (λ m. not (among hash_cmp gone m.hash)) (waiting_of w) next.next next.waits).0
+  pub change_is : (o : Option (Box Change)) → o ≡ get hash_cmp w h → option_map box_value o ≡ Some next.next.change
+  change_is o e = ap (option_map box_value) e ∙ ap (change_at w) (sym next.hash) ∙ found w ordered next.next (Contains-from_filter (λ m. not (among hash_cmp gone m.hash)) (waiting_of w) next.next next.waits).0
 
-  pub never_none : (o : Option Change) → o ≡ get hash_cmp w h → o ≡ None → ⊥
-  never_none o e f = let g = change_is o e in cc
+  pub never_none : (o : Option (Box Change)) → o ≡ get hash_cmp w h → o ≡ None → ⊥
+  never_none o e f = let g = sym (ap (option_map box_value) f) ∙ change_is o e in cc
 
-  pub turn : (o : Option Change) (c : Change) → o ≡ get hash_cmp w h → o ≡ Some c → Turn C W (record { hash = h; change = c })
-  turn o c e f =
-      let g = change_is o e in
+  pub turn : (b : Box Change) (c : Change) → Some b ≡ get hash_cmp w h → c ≡ b.value → Turn C W (record { hash = h; change = c })
+  turn b c e is =
+      let g : Some b.value ≡ Some next.next.change = change_is (Some b) e in
       let same_change : next.next.change ≡ c = cc in
       subst (Turn C W) (λ i. record { hash = next.hash i; change = same_change i }) (record { waits = next.waits; deps = next.deps; first = next.first })
 

@@ -1,5 +1,7 @@
 -- Changes that are taken out one after another.
 use Rattle.std.proofs.Common.{ℕ, ◌≡◌, ◌<◌, ◌+◌, length, take, get_or, List, [], ◌∷◌, ◌++◌, filter, true, false, not, Option, Some, None, option_map, refl, sym, ap, ◌∙◌, subst, inl, inr, Contains, BTreeMap}
+use Rattle.std.specs.Global.{Box}
+use Rattle.std.specs.Box.{box_value}
 use Rattle.std.specs.BTreeMap.{get, IsOrdered}
 use Rattle.std.proofs.lemmas.Bool.{both_ways, or_parts, false_from_ne_true}
 use Rattle.std.proofs.lemmas.List.{append-nil, append_assoc, map-append, take_more}
@@ -12,12 +14,12 @@ use Rattle.am_types.specs.Members.{Member, hashes, member, holds}
 use Rattle.am_types.specs.Deliver.{without}
 use Rattle.am_types.proofs.Orders.{hash_total, hash_exact, same_hash-true, same_hash_itself}
 use Rattle.am_laws.proofs.Ancestry.{Contains-from_filter}
-use Rattle.am_delivery.specs.Waiting.{member_of, members_of, waiting_of, remaining, taken_out}
+use Rattle.am_delivery.specs.Waiting.{member_of, members_of, out_of_box, unboxed, waiting_of, remaining, taken_out}
 use Rattle.am_delivery.proofs.Lists.{Contains-none, Contains-cons_cases, Contains-map}
 use Rattle.am_delivery.proofs.Members.{Distinct, holds_it, distinct_filter}
 use Rattle.am_delivery.proofs.Steady.{absent}
 use Rattle.am_delivery.proofs.Steps.{distinct}
-use Rattle.am_delivery.proofs.Arrivals.{looked_up, change_of}
+use Rattle.am_delivery.proofs.Arrivals.{looked_in, change_of}
 use Rattle.am_delivery.proofs.Leaving.{remaining_nil, remaining_more, remaining_both}
 
 -- the members with the hash h
@@ -59,7 +61,7 @@ taken_more (g ∷ hs) h W =
     ∙ ap (λ V. (with_hash g W ++ taken_out hs (without g W)) ++ with_hash h V) (remaining_first g hs W)
 
 -- the change that joins is the next that is taken out
-pub joins_next : (w : BTreeMap Hash Change) → IsOrdered hash_cmp w → (hs gs : List Hash) (m : Member) → Contains (remaining (hs ++ gs) (waiting_of w)) m
+pub joins_next : (w : BTreeMap Hash (Box Change)) → IsOrdered hash_cmp w → (hs gs : List Hash) (m : Member) → Contains (remaining (hs ++ gs) (waiting_of w)) m
     → (C D E : List Member) → D ≡ C ++ taken_out hs (waiting_of w) → E ≡ D ++ m ∷ [] → (new : List Hash) → new ≡ hs ++ m.hash ∷ [] → E ≡ C ++ taken_out new (waiting_of w)
 joins_next w ordered hs gs m c C D E d e new n =
     let W : List Member = waiting_of w in
@@ -70,7 +72,7 @@ joins_next w ordered hs gs m c C D E d e new n =
     ∙ ap (λ l. C ++ l) (sym (taken_more hs m.hash W)) ∙ ap (λ l. C ++ taken_out l W) (sym n)
 
 -- and its hash the next of theirs
-pub named_next : (w : BTreeMap Hash Change) → IsOrdered hash_cmp w → (hs gs : List Hash) (m : Member) → Contains (remaining (hs ++ gs) (waiting_of w)) m
+pub named_next : (w : BTreeMap Hash (Box Change)) → IsOrdered hash_cmp w → (hs gs : List Hash) (m : Member) → Contains (remaining (hs ++ gs) (waiting_of w)) m
     → (new : List Hash) → new ≡ hs ++ m.hash ∷ [] → hashes (taken_out hs (waiting_of w)) ≡ hs → hashes (taken_out new (waiting_of w)) ≡ new
 named_next w ordered hs gs m c new n had =
     let out : List Member = taken_out hs (waiting_of w) in
@@ -93,7 +95,7 @@ no_member None e = refl
 no_member (Some m) e = cc
 
 -- the changes with the hashes hs are moved behind T, one by one
-module _ (W T : List Member) (w : BTreeMap Hash Change) (ordered : IsOrdered hash_cmp w) (hs : List Hash) (i : ℕ) (d : Hash) (l : i < length hs) (had : waiting_of w ≡ remaining (take i hs) W) where
+module _ (W T : List Member) (w : BTreeMap Hash (Box Change)) (ordered : IsOrdered hash_cmp w) (hs : List Hash) (i : ℕ) (d : Hash) (l : i < length hs) (had : waiting_of w ≡ remaining (take i hs) W) where
   abbrev h : Hash
   h = get_or hs i d
 
@@ -103,13 +105,16 @@ module _ (W T : List Member) (w : BTreeMap Hash Change) (ordered : IsOrdered has
       ∙ ap (λ V. T ++ (taken_out (take i hs) W ++ V)) (sym e ∙ ap (with_hash h) had)
       ∙ ap (λ k. T ++ k) (sym (taken_more (take i hs) h W)) ∙ ap (λ gs. T ++ taken_out gs W) (sym (take_more hs i d l))
 
-  pub moved : (c : Change) → get hash_cmp w h ≡ Some c → (old new : List (Hash × Change)) → new ≡ old ++ (h, c) ∷ [] → members_of old ≡ T ++ taken_out (take i hs) W → members_of new ≡ T ++ taken_out (take (i + 1) hs) W
-  moved c e old new n is =
-      let m : Member = member_of (h, c) in
-      let there : Contains (waiting_of w) m = Contains-map member_of w.entries (h, c) ((btree_map_get_iff hash_total hash_exact w ordered h c).0 e) in
-      ap members_of n ∙ map-append member_of old ((h, c) ∷ []) ∙ behind (m ∷ []) (one_with (waiting_of w) (distinct w ordered) m there) (members_of old) is
+  pub moved : (b : Box Change) → get hash_cmp w h ≡ Some b → (old new : List (Hash × Box Change)) → new ≡ old ++ (h, b) ∷ []
+      → members_of (unboxed old) ≡ T ++ taken_out (take i hs) W → members_of (unboxed new) ≡ T ++ taken_out (take (i + 1) hs) W
+  moved b e old new n is =
+      let m : Member = member_of (out_of_box (h, b)) in
+      let within : Contains (unboxed w.entries) (out_of_box (h, b)) = Contains-map out_of_box w.entries (h, b) ((btree_map_get_iff hash_total hash_exact w ordered h b).0 e) in
+      let there : Contains (waiting_of w) m = Contains-map member_of (unboxed w.entries) (out_of_box (h, b)) within in
+      let more : unboxed new ≡ unboxed old ++ out_of_box (h, b) ∷ [] = ap unboxed n ∙ map-append out_of_box old ((h, b) ∷ []) in
+      ap members_of more ∙ map-append member_of (unboxed old) (out_of_box (h, b) ∷ []) ∙ behind (m ∷ []) (one_with (waiting_of w) (distinct w ordered) m there) (members_of (unboxed old)) is
 
-  pub none_moved : get hash_cmp w h ≡ None → (old : List (Hash × Change)) → members_of old ≡ T ++ taken_out (take i hs) W → members_of old ≡ T ++ taken_out (take (i + 1) hs) W
+  pub none_moved : get hash_cmp w h ≡ None → (old : List (Hash × Box Change)) → members_of (unboxed old) ≡ T ++ taken_out (take i hs) W → members_of (unboxed old) ≡ T ++ taken_out (take (i + 1) hs) W
   none_moved e old is =
-      let none : with_hash h (waiting_of w) ≡ [] = none_with h (waiting_of w) (absent (waiting_of w) h (no_member (member (waiting_of w) h) (sym (looked_up w.entries h) ∙ e))) in
-      sym (append-nil (members_of old)) ∙ behind [] none (members_of old) is
+      let none : with_hash h (waiting_of w) ≡ [] = none_with h (waiting_of w) (absent (waiting_of w) h (no_member (member (waiting_of w) h) (sym (looked_in w h) ∙ ap (option_map box_value) e))) in
+      sym (append-nil (members_of (unboxed old))) ∙ behind [] none (members_of (unboxed old)) is

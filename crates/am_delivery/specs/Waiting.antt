@@ -1,4 +1,5 @@
 -- Pairs of hashes and changes, and the changes that wait.
+--     unboxed es          the pairs of a list of hashes and boxes, each change out of its box
 --     waiting_of w        the waiting changes of a map, ascending by hash
 --     remaining hs W      the members of W whose hashes aren't among hs
 --     taken_out hs W      the members that leave W where those with the hashes hs are taken out, one after another
@@ -8,6 +9,7 @@
 use Rattle.std.specs.Prelude.{◌≡◌, List, [], ◌∷◌, ◌++◌, map, filter, not, Option, Some, IfSome, option_map, vec_items}
 use denote.Ref.{Bor}
 use Rattle.std.specs.BTreeMap.{BTreeMap}
+use Rattle.std.specs.Global.{Box}
 use Rattle.am_types.specs.declared.Hash.{Hash}
 use Rattle.am_types.specs.declared.Change.{Change}
 use Rattle.am_types.specs.Order.{hash_cmp, same, among}
@@ -24,8 +26,14 @@ member_of e = record { hash = e.0; change = e.1 }
 abbrev pub members_of : List (Hash × Change) → List Member
 members_of es = map member_of es
 
-abbrev pub waiting_of : BTreeMap Hash Change → List Member
-waiting_of w = members_of w.entries
+abbrev pub out_of_box : Hash × Box Change → Hash × Change
+out_of_box e = (e.0, e.1.value)
+
+abbrev pub unboxed : List (Hash × Box Change) → List (Hash × Change)
+unboxed es = map out_of_box es
+
+abbrev pub waiting_of : BTreeMap Hash (Box Change) → List Member
+waiting_of w = members_of (unboxed w.entries)
 
 abbrev pub remaining : List Hash → List Member → List Member
 remaining hs W = filter (λ m. not (among hash_cmp hs m.hash)) W

@@ -41,7 +41,7 @@ fn why_not(verdict: Verdict) -> Option<Why>
 fn admit_next<'a, S: Closed>(
     alloc: Global,
     closed: &mut S,
-    waiting: &'a BTreeMap<Hash, Change>,
+    waiting: &'a BTreeMap<Hash, Box<Change>>,
     gone: &mut Gone,
     lent: &mut Vec<&'a Change>,
     pending: &mut Pending,
@@ -63,9 +63,10 @@ fn admit_next<'a, S: Closed>(
     let Some(hash) = pending.pop() else {
         return Ok(false);
     };
-    let Some(change) = waiting.get(&hash) else {
+    let Some(held) = waiting.get(&hash) else {
         return Ok(false);
     };
+    let change = &**held;
     let verdict = closed.judge(alloc, change)?;
     match why_not(verdict) {
         None => {
@@ -87,7 +88,7 @@ fn admit_next<'a, S: Closed>(
 pub fn settle_all<'a, S: Closed>(
     alloc: Global,
     closed: &mut S,
-    waiting: &'a BTreeMap<Hash, Change>,
+    waiting: &'a BTreeMap<Hash, Box<Change>>,
     pending: &mut Pending,
     rejected: &mut Vec<Rejected>,
     lent: &mut Vec<&'a Change>,

@@ -8,7 +8,7 @@ ghost use Rattle.am_types.specs.Same.{same_change};
 ghost use Rattle.am_types.specs.Deliver.{Sets, MayCome, AreStored, Alike, receive};
 ghost use Rattle.am_delivery.specs.Tracking.{Tracks};
 ghost use Rattle.am_delivery.specs.Views.{tracker};
-ghost use Rattle.am_delivery.specs.Waiting.{members_of, waiting_of, remaining};
+ghost use Rattle.am_delivery.specs.Waiting.{members_of, unboxed, waiting_of, remaining};
 
 use crate::closed::Closed;
 use crate::pending::Pending;
@@ -57,22 +57,24 @@ pub fn lacking<S: Closed>(alloc: Global, closed: &S, deps: &[Hash]) -> Result<Ve
 /// A change joins the waiting ones, unless one of these has its hash: then it is told whether that one is equal to it. Its
 /// hash is put down too, so that without memory it can be taken out again.
 fn put(
-    waiting: &mut BTreeMap<Hash, Change>,
+    alloc: Global,
+    waiting: &mut BTreeMap<Hash, Box<Change>>,
     came: &mut Vec<Hash>,
     hash: Hash,
     change: Change,
 ) -> Result<Option<bool>, AllocError>
     ensures same { IfOk result (λ same. same ≡ option_map (λ m. same_change m.change change) (member (waiting_of waiting.old) hash)) }
-    ensures put { IfOk result (λ same. IfNone same (waiting.new.entries ≡ insert_entry hash_cmp waiting.old.entries hash change)) }
+    ensures put { IfOk result (λ same. IfNone same (unboxed waiting.new.entries ≡ insert_entry hash_cmp (unboxed waiting.old.entries) hash change)) }
     ensures stays { IfOk result (λ same. IfSome same (λ b. waiting.new.entries ≡ waiting.old.entries)) }
     ensures kept { remaining (vec_items came.new) (waiting_of waiting.new) ≡ remaining (vec_items came.old) (waiting_of waiting.old) }
 {
     came.reserve(1)?;
     match waiting.entry(hash)? {
-        Entry::Occupied(held) => Ok(Some(is_same(held.get(), &change))),
+        Entry::Occupied(held) => Ok(Some(is_same(&**held.get(), &change))),
         Entry::Vacant(place) => {
+            let boxed = Box::new(alloc, change)?;
             came.push_reserved(hash);
-            place.insert(change);
+            place.insert(boxed);
             Ok(None)
         }
     }
@@ -96,7 +98,7 @@ fn tell(rejected: &mut Vec<Rejected>, hash: Hash, same: bool) -> Result<(), Allo
 fn receive_one<S: Closed>(
     alloc: Global,
     closed: &S,
-    waiting: &mut BTreeMap<Hash, Change>,
+    waiting: &mut BTreeMap<Hash, Box<Change>>,
     pending: &mut Pending,
     came: &mut Vec<Hash>,
     rejected: &mut Vec<Rejected>,
@@ -116,7 +118,7 @@ fn receive_one<S: Closed>(
         return tell(rejected, hash, same);
     }
     let absent = lacking(alloc, closed, change.deps.as_slice())?;
-    if let Some(same) = put(waiting, came, hash, change)? {
+    if let Some(same) = put(alloc, waiting, came, hash, change)? {
         return tell(rejected, hash, same);
     }
     pending.enter(alloc, hash, absent.as_slice())?;
@@ -127,7 +129,7 @@ fn receive_one<S: Closed>(
 pub fn receive_all<S: Closed>(
     alloc: Global,
     closed: &S,
-    waiting: &mut BTreeMap<Hash, Change>,
+    waiting: &mut BTreeMap<Hash, Box<Change>>,
     pending: &mut Pending,
     came: &mut Vec<Hash>,
     rejected: &mut Vec<Rejected>,

@@ -4,7 +4,7 @@ ghost use Rattle.am_types.specs.Deliver.{Sets, MayCome, AreStored, Waits, settle
 ghost use Rattle.am_types.specs.ValidSets.{Valid};
 ghost use Rattle.am_delivery.specs.Tracking.{Tracks};
 ghost use Rattle.am_delivery.specs.Views.{tracker};
-ghost use Rattle.am_delivery.specs.Waiting.{members_of, waiting_of, remaining, taken_out, all_gone, IsTracked};
+ghost use Rattle.am_delivery.specs.Waiting.{members_of, unboxed, waiting_of, remaining, taken_out, all_gone, IsTracked};
 
 use crate::admitting::{Gone, settle_all};
 use crate::arriving::{lacking, receive_all};
@@ -19,8 +19,8 @@ use std::collections::BTreeMap;
 /// What a delivery has come to.
 #[derive(Drop)]
 pub struct Settled {
-    /// The changes that have joined, each beside its hash, in the order in which they joined.
-    pub joined: Vec<(Hash, Change)>,
+    /// The changes that have joined, each in its box and beside its hash, in the order in which they joined.
+    pub joined: Vec<(Hash, Box<Change>)>,
     /// What was rejected, in order.
     pub rejected: List<Rejected>,
 }
@@ -29,7 +29,7 @@ pub struct Settled {
 fn enter_all<S: Closed>(
     alloc: Global,
     closed: &S,
-    waiting: &BTreeMap<Hash, Change>,
+    waiting: &BTreeMap<Hash, Box<Change>>,
 ) -> Result<Pending, AllocError>
     requires { All MayCome (waiting_of waiting.now) }
     ensures { IfOk result (λ pending. Tracks (S.members closed.now) (waiting_of waiting.now) (tracker pending)) }
@@ -46,7 +46,7 @@ fn enter_all<S: Closed>(
 fn take_pending<S: Closed>(
     alloc: Global,
     closed: &S,
-    waiting: &BTreeMap<Hash, Change>,
+    waiting: &BTreeMap<Hash, Box<Change>>,
     pending: &mut Option<Pending>,
 ) -> Result<Pending, AllocError>
     requires may_come { All MayCome (waiting_of waiting.now) }
@@ -61,7 +61,7 @@ fn take_pending<S: Closed>(
 }
 
 /// What is kept of what the waiting changes lack: nothing where none waits.
-fn kept(waiting: &BTreeMap<Hash, Change>, pending: Pending) -> Option<Pending>
+fn kept(waiting: &BTreeMap<Hash, Box<Change>>, pending: Pending) -> Option<Pending>
     ensures { IfSome result (λ kept. kept ≡ pending) }
 {
     if waiting.is_empty() {
@@ -76,7 +76,7 @@ struct Outcome {
     /// Which changes wait no longer.
     gone: Gone,
     /// Room for those that have joined.
-    room: Vec<(Hash, Change)>,
+    room: Vec<(Hash, Box<Change>)>,
     /// What was rejected.
     rejected: Vec<Rejected>,
 }
@@ -85,7 +85,7 @@ struct Outcome {
 fn bring_to_rest<S: Closed>(
     alloc: Global,
     closed: &mut S,
-    waiting: &BTreeMap<Hash, Change>,
+    waiting: &BTreeMap<Hash, Box<Change>>,
     pending: &mut Pending,
     mut rejected: Vec<Rejected>,
 ) -> Result<Outcome, AllocError>
@@ -119,7 +119,7 @@ fn bring_to_rest<S: Closed>(
 fn take_up<S: Closed>(
     alloc: Global,
     closed: &mut S,
-    waiting: &mut BTreeMap<Hash, Change>,
+    waiting: &mut BTreeMap<Hash, Box<Change>>,
     pending: &mut Pending,
     came: &mut Vec<Hash>,
     changes: Vec<(Hash, Change)>,
@@ -165,7 +165,7 @@ fn take_up<S: Closed>(
 pub fn deliver<S: Closed>(
     alloc: Global,
     closed: &mut S,
-    waiting: &mut BTreeMap<Hash, Change>,
+    waiting: &mut BTreeMap<Hash, Box<Change>>,
     pending: &mut Option<Pending>,
     changes: Vec<(Hash, Change)>,
 ) -> Result<Settled, AllocError>
@@ -177,7 +177,7 @@ pub fn deliver<S: Closed>(
     ensures closed { OnOk result (S.members closed.new ≡ (delivered (S.members closed.old) (waiting_of waiting.old) (members_of (vec_items changes))).closed) }
     ensures waiting { OnOk result (IsPermutation (delivered (S.members closed.old) (waiting_of waiting.old) (members_of (vec_items changes))).waiting (waiting_of waiting.new)) }
     ensures rejected { IfOk result (λ settled. settled.rejected ≡ (delivered (S.members closed.old) (waiting_of waiting.old) (members_of (vec_items changes))).rejected) }
-    ensures joined { IfOk result (λ settled. S.members closed.new ≡ S.members closed.old ++ members_of (vec_items settled.joined)) }
+    ensures joined { IfOk result (λ settled. S.members closed.new ≡ S.members closed.old ++ members_of (unboxed (vec_items settled.joined))) }
     ensures stored { OnOk result (AreStored (S.members closed.new) (waiting_of waiting.new)) }
     ensures tracked { OnOk result (IsTracked (S.members closed.new) (waiting_of waiting.new) pending.new) }
     ensures rest { OnOk result (S.members closed.new ≡ S.base closed.new) }

@@ -13,7 +13,7 @@ use std::collections::BTreeMap;
 pub fn finish_with<S: Closed>(
     alloc: Global,
     closed: &mut S,
-    waiting: &BTreeMap<Hash, Change>,
+    waiting: &BTreeMap<Hash, Box<Change>>,
     lent: &[&Change],
 ) -> Result<(), AllocError>
     requires joined { (hs : List AHash) × (S.members closed.old ≡ S.base closed.old ++ taken_out hs (waiting_of waiting.now)) × (hashes (taken_out hs (waiting_of waiting.now)) ≡ hs) × AreLent lent.now hs (waiting_of waiting.now) }

@@ -1,6 +1,6 @@
 use Rattle.std.proofs.Common.{arith, [], sym, ◌∙◌}
 use Rattle.std.proofs.lemmas.List.{append-nil}
-use Rattle.am_delivery.specs.Waiting.{members_of, waiting_of}
+use Rattle.am_delivery.specs.Waiting.{members_of, unboxed, waiting_of}
 use Rattle.am_delivery.proofs.Leaving.{remaining_nil, removed_next}
 use Rattle.am_delivery.proofs.TakenOut.{moved, none_moved}
 use Rattle.am_delivery.proofs.removing.move_all.Goals.{in-Some, in_default}
@@ -9,7 +9,7 @@ use Rattle.am_delivery.proofs.removing.move_all.Goals as goal
 pub loop-hash-init : goal.loop-hash-init
 loop-hash-init c = record {
   left = sym (remaining_nil (waiting_of c.args.waiting.now));
-  taken = sym (append-nil (members_of c.args.taken.now.items));
+  taken = sym (append-nil (members_of (unboxed c.args.taken.now.items)));
   room = let room = c.requires in omega arith;
 }
 
@@ -23,7 +23,7 @@ pub loop-hash-preserved : goal.loop-hash-preserved
 loop-hash-preserved c =
     let at = c.loop-hash in
     let W = waiting_of c.args.waiting.now in
-    let T = members_of c.args.taken.now.items in
+    let T = members_of (unboxed c.args.taken.now.items) in
     let left = removed_next W at.waiting c.remove.new.self c.args.gone.now at.hash-index (record { 0 = [] }) c.loop-hash-test.true at.invariant.left c.len-count.ensures.ordered c.remove.ensures.entries in
     let room = at.invariant.room in
     elim c.match-remove.branch [
