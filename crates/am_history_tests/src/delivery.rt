@@ -148,7 +148,7 @@ fn changes(alloc: Global, samples: &[Sample]) -> Result<Vec<(Hash, Change)>, Fai
 }
 
 /// The first bytes of the hashes.
-fn joined_bytes(alloc: Global, entries: &[(Hash, Change)]) -> Result<Vec<u8>, AllocError> {
+fn joined_bytes(alloc: Global, entries: &[(Hash, Box<Change>)]) -> Result<Vec<u8>, AllocError> {
     let mut bytes = Vec::new(alloc);
     for entry in entries {
         bytes.push(entry.0.0[0])?;
@@ -156,7 +156,10 @@ fn joined_bytes(alloc: Global, entries: &[(Hash, Change)]) -> Result<Vec<u8>, Al
     Ok(bytes)
 }
 
-fn waiting_bytes(alloc: Global, waiting: &BTreeMap<Hash, Change>) -> Result<Vec<u8>, AllocError> {
+fn waiting_bytes(
+    alloc: Global,
+    waiting: &BTreeMap<Hash, Box<Change>>,
+) -> Result<Vec<u8>, AllocError> {
     let mut bytes = Vec::new(alloc);
     for (hash, _) in waiting.iter() {
         bytes.push(hash.0[0])?;
@@ -176,7 +179,7 @@ fn told(alloc: Global, settled: &Settled) -> Result<(Vec<u8>, Option<Rejected>, 
 fn delivered(
     alloc: Global,
     closed: &mut SampleSet,
-    waiting: &mut BTreeMap<Hash, Change>,
+    waiting: &mut BTreeMap<Hash, Box<Change>>,
     pending: &mut Option<Pending>,
     samples: &[Sample],
 ) -> Result<(Vec<u8>, Option<Rejected>, bool), Fail>
@@ -197,7 +200,7 @@ fn deliver_all(
     rt: &impl Abort,
     alloc: Global,
     closed: &mut SampleSet,
-    waiting: &mut BTreeMap<Hash, Change>,
+    waiting: &mut BTreeMap<Hash, Box<Change>>,
     pending: &mut Option<Pending>,
 ) -> Result<(), Fail>
     requires { Kept (members_of closed.old.held.items) (members_of (take closed.old.resting closed.old.held.items)) (waiting_of waiting.old) pending.old }
@@ -216,7 +219,7 @@ fn from_nothing(
     rt: &impl Abort,
     alloc: Global,
     closed: &mut SampleSet,
-    waiting: &mut BTreeMap<Hash, Change>,
+    waiting: &mut BTreeMap<Hash, Box<Change>>,
 ) -> Result<(), Fail>
     requires held { closed.old.held.items ≡ [] }
     requires waiting { waiting_of waiting.old ≡ [] }

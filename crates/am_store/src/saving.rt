@@ -15,13 +15,13 @@ use std::collections::BTreeMap;
 pub fn push_chunks(
     alloc: Global,
     file: &mut Bytes,
-    changes: &BTreeMap<Hash, Change>,
+    changes: &BTreeMap<Hash, Box<Change>>,
 ) -> Result<(), AllocError>
     requires { All (λ m. Fine m.change) (waiting_of changes.now) }
     ensures { OnOk result (file.new ≡ file.old ++ chunks (sorted_by (on (λ m. m.hash) hash_cmp) (waiting_of changes.now))) }
 {
     for (_, change) in changes.iter() {
-        let chunk = chunk_of(alloc, change)?;
+        let chunk = chunk_of(alloc, &**change)?;
         file.push_slice(chunk.as_slice())?;
     }
     Ok(())

@@ -401,7 +401,7 @@ fn exchange(graph: &mut Graph, index: &mut OpIndex, built: &mut Built<'_>)
 }
 
 /// How many changes there are.
-pub(crate) fn count_of(changes: &[(Hash, Change)]) -> u64
+pub(crate) fn count_of<T>(changes: &[T]) -> u64
     ensures { result ≡ length changes.now }
 {
     changes.len() as u64

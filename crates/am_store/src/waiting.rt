@@ -2,7 +2,7 @@
 ghost use Rattle.std.specs.Prelude.{◌≡◌, IfOk, None, [], length};
 ghost use Rattle.am_types.specs.Members.{hashes};
 ghost use Rattle.am_types.specs.Order.{hash_cmp, Ascends};
-ghost use Rattle.am_delivery.specs.Waiting.{waiting_of};
+ghost use Rattle.am_delivery.specs.Waiting.{unboxed, waiting_of};
 
 use crate::copies::map_copied;
 use am_delivery::Pending;
@@ -13,7 +13,7 @@ use std::collections::BTreeMap;
 /// Changes that wait, and what they lack.
 #[derive(Drop)]
 pub struct Waiting {
-    pub changes: BTreeMap<Hash, Change>,
+    pub changes: BTreeMap<Hash, Box<Change>>,
     /// After a delivery that failed, and in a copy, it isn't known before the next one.
     pub pending: Option<Pending>,
 }
@@ -52,7 +52,7 @@ impl Waiting {
 
     /// The same changes. What they lack isn't known there.
     pub fn copied(&self, alloc: Global) -> Result<Waiting, AllocError>
-        ensures changes { IfOk result (λ twin. twin.changes.entries ≡ self.now.changes.entries) }
+        ensures changes { IfOk result (λ twin. unboxed twin.changes.entries ≡ unboxed self.now.changes.entries) }
         ensures pending { IfOk result (λ twin. twin.pending ≡ None) }
     {
         let changes = map_copied(alloc, &self.changes)?;

@@ -1,13 +1,13 @@
 use Rattle.std.proofs.Common.{◌≡◌, List, ◌++◌, length, vec_items, sym, ap, subst, ◌∙◌}
 use Rattle.std.specs.Prelude.{IfSome}
-use Rattle.std.proofs.lemmas.List.{length-map}
 use Rattle.am_types.specs.declared.Hash.{Hash}
 use Rattle.am_types.specs.declared.Change.{Change}
 use Rattle.am_types.specs.Members.{Member}
 use Rattle.am_types.specs.Documents.{table}
 use Rattle.am_doc.specs.Contents.{body}
 use Rattle.am_fits.specs.Indexes.{AreOf}
-use Rattle.am_delivery.specs.Waiting.{member_of, members_of, waiting_of, IsTracked}
+use Rattle.am_delivery.specs.Waiting.{members_of, unboxed, waiting_of, IsTracked}
+use Rattle.am_delivery.proofs.Boxes.{unboxed_length, waiting_count}
 use Rattle.am_store.specs.Grown.{Grown, AreHeld}
 use Rattle.am_store.specs.Growing.{ArePartsOf}
 use Rattle.am_store.specs.Kept.{Kept, IsKept, Takes, counts_of}
@@ -97,11 +97,11 @@ invariant_of-self-2 c =
     let all : members_of (grown.old.entries ++ grown.fresh.entries) ≡ D = subst (λ (x : Grown). members_of (x.old ++ x.fresh) ≡ members_of x.old) (sym c.growing.view_is) did.rest in
     let of : AreOf D grown.graph grown.index = subst (λ C. AreOf C grown.graph grown.index) all c.growing.invariant.grown.of_set in
     record {
-      kept = kept_after es W (members_of (vec_items c.args.changes)) (members_of (g.old ++ g.fresh)) (members_of (h.old ++ h.fresh)) D (waiting_of w) c.in-Ok.settled.joined.items
+      kept = kept_after es W (members_of (vec_items c.args.changes)) (members_of (g.old ++ g.fresh)) (members_of (h.old ++ h.fresh)) D (waiting_of w) (unboxed c.in-Ok.settled.joined.items)
           (at_start es g begun) did.closed did.waiting did.stored did.joined rest c.keeps_what_came.ensures c.self.invariant.kept.own_hashes c.requires.own_hashes;
       contents = c.growing.invariant.contents.bytes_are;
       of_set = of;
-      counts = counted_of (record { closed = D; waiting = waiting_of w }) grown.graph grown.index of c.totals.result c.count.result (c.count.ensures ∙ sym (length-map w.entries member_of)) c.totals.ensures c.counted-self-inside.result c.counted-self-inside.ensures;
+      counts = counted_of (record { closed = D; waiting = waiting_of w }) grown.graph grown.index of c.totals.result c.count.result (c.count.ensures ∙ waiting_count w) c.totals.ensures c.counted-self-inside.result c.counted-self-inside.ensures;
       tracked = subst (λ C. IsTracked C (waiting_of w) c.deliver.new.pending) rest did.tracked;
     }
 
@@ -115,14 +115,14 @@ returns-clause-ok c =
     let w = c.deliver.new.waiting in
     let did = c.in-Ok.ensures in
     let D = members_of c.growing.inside.old.entries in
-    let joined = c.in-Ok.settled.joined.items in
+    let joined = unboxed c.in-Ok.settled.joined.items in
     let begun : g ≡ begins es = c.over-growing.ensures ∙ ap (λ l. begins l) (ap entries_of c.replace-closed.ensures.value) in
     let rest : members_of (h.old ++ h.fresh) ≡ D = did.rest ∙ sym (ap (λ (x : Grown). members_of x.old) c.growing.view_is) in
-    let count : c.count_of.result ≡ length joined = c.count_of.ensures ∙ ap length c.as_slice-2.ensures.value in
+    let count : c.count_of.result ≡ length joined = c.count_of.ensures ∙ ap length c.as_slice-2.ensures.value ∙ unboxed_length c.in-Ok.settled.joined.items in
     let report : Report = record { added = c.count_of.result; waiting = c.count.result; rejected = c.in-Ok.settled.rejected } in
     subst (λ (o : Kept). Takes o L report (record { closed = D; waiting = waiting_of w })) c.self.view_is
     (takes es W L (members_of (g.old ++ g.fresh)) (members_of (h.old ++ h.fresh)) D (waiting_of w) joined (at_start es g begun) did.closed did.waiting did.stored did.joined rest
-    c.in-Ok.settled.rejected c.count_of.result c.count.result did.rejected count (c.count.ensures ∙ sym (length-map w.entries member_of)))
+    c.in-Ok.settled.rejected c.count_of.result c.count.result did.rejected count (c.count.ensures ∙ waiting_count w))
 
 pub returns-clause-order : goal.returns-clause-order
 returns-clause-order c =

@@ -1,8 +1,8 @@
 use Rattle.std.proofs.Common.{◌≡◌, List, ◌++◌, length, vec_items, sym, ap, subst, ◌∙◌}
-use Rattle.std.proofs.lemmas.List.{length-map}
 use Rattle.am_types.specs.Members.{Member}
 use Rattle.am_types.specs.Deliver.{AreStored}
-use Rattle.am_delivery.specs.Waiting.{member_of, members_of, waiting_of, IsTracked}
+use Rattle.am_delivery.specs.Waiting.{members_of, unboxed, waiting_of, IsTracked}
+use Rattle.am_delivery.proofs.Boxes.{unboxed_length, waiting_count}
 use Rattle.am_store.specs.Kept.{Kept, IsKept, Takes}
 use Rattle.am_store.specs.Unsettled.{unsettled_in}
 use Rattle.am_store.specs.declared.report.Report.{Report}
@@ -54,7 +54,7 @@ invariant_of-self-2 c =
     let did = c.in-Ok.ensures in
     record {
       rest = did.rest;
-      kept = kept_after s.old W (members_of (vec_items c.args.changes)) (members_of (s.old ++ s.fresh)) (members_of (h.old ++ h.fresh)) (members_of h.old) (waiting_of w) c.in-Ok.settled.joined.items
+      kept = kept_after s.old W (members_of (vec_items c.args.changes)) (members_of (s.old ++ s.fresh)) (members_of (h.old ++ h.fresh)) (members_of h.old) (waiting_of w) (unboxed c.in-Ok.settled.joined.items)
           c.self.invariant.rest did.closed did.waiting did.stored did.joined did.rest c.keeps_what_came.ensures c.self.invariant.kept.own_hashes c.requires.own_hashes;
       tracked = subst (λ C. IsTracked C (waiting_of w) c.deliver.new.pending) did.rest did.tracked;
     }
@@ -67,12 +67,12 @@ returns-clause-ok c =
     let h = c.deliver.new.closed in
     let w = c.deliver.new.waiting in
     let did = c.in-Ok.ensures in
-    let joined = c.in-Ok.settled.joined.items in
-    let count : c.count_of.result ≡ length joined = c.count_of.ensures ∙ ap length c.as_slice.ensures.value in
+    let joined = unboxed c.in-Ok.settled.joined.items in
+    let count : c.count_of.result ≡ length joined = c.count_of.ensures ∙ ap length c.as_slice.ensures.value ∙ unboxed_length c.in-Ok.settled.joined.items in
     let report : Report = record { added = c.count_of.result; waiting = c.count.result; rejected = c.in-Ok.settled.rejected } in
     subst (λ (o : Kept). Takes o L report (kept_of (members_of h.old) (waiting_of w))) c.self.view_is
     (takes s.old W L (members_of (s.old ++ s.fresh)) (members_of (h.old ++ h.fresh)) (members_of h.old) (waiting_of w) joined c.self.invariant.rest did.closed did.waiting did.stored did.joined did.rest
-    c.in-Ok.settled.rejected c.count_of.result c.count.result did.rejected count (c.count.ensures ∙ sym (length-map w.entries member_of)))
+    c.in-Ok.settled.rejected c.count_of.result c.count.result did.rejected count (c.count.ensures ∙ waiting_count w))
 
 pub returns-clause-order : goal.returns-clause-order
 returns-clause-order c =
