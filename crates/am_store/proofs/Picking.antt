@@ -141,7 +141,7 @@ unfolding order
 of_ordered sorts law C v heads hs e =
     let seen = (law C (order C) v (IsPermutation-sorted_by (canonical_cmp C) C)).at heads in
     let same = IsPermutation-map (λ (m : Member). m.hash) (ancestors C heads) (ancestors (order C) heads) seen.members in
-    of_ancestors (order C) heads hs (e ∙ sym (sorts.1.0.once (hashes (ancestors C heads)) (hashes (ancestors (order C) heads)) same))
+    of_ancestors (order C) heads hs (e ∙ sym (sorts.1.once (hashes (ancestors C heads)) (hashes (ancestors (order C) heads)) same))
 
 pub more_among : (hs : List Hash) (es : List (Hash × Change)) (i : ℕ) (d : Hash × Change) → i < length es → (b : Bool) → among hash_cmp hs (get_or es i d).0 ≡ b → (cs ds : List Change)
     → cs ≡ changes (filter (λ m. among hash_cmp hs m.hash) (members_of (take i es))) → ds ≡ Rattle.std.proofs.Common.cond b (cs ++ (get_or es i d).1 ∷ []) cs

@@ -29,8 +29,8 @@ kept_of es W = record { closed = members_of es; waiting = W }
 pub over-growing-requires-clause-parts : goal.over-growing-requires-clause-parts
 over-growing-requires-clause-parts c =
     let s = c.self.inside in
-    let same : ◌≡◌ {A = Parts} (record { closed = s.closed; contents = s.contents; graph = s.graph; index = s.index }) (record { closed = c.replace-closed.result; contents = c.replace-contents.result; graph = c.replace-graph.result; index = c.with_room.result }) =
-    (λ i. record { closed = sym c.replace-closed.ensures.value i; contents = sym c.replace-contents.ensures.value i; graph = sym c.replace-graph.ensures.value i; index = sym (c.with_room.ensures ∙ c.replace-index.ensures.value) i }) in
+    let same : ◌≡◌ {A = Parts} (record { closed = s.closed; contents = s.contents; graph = s.graph; index = s.index }) (record { closed = c.replace-closed.result; contents = c.replace-contents.result; graph = c.replace-graph.result; index = c.with_room-index.result }) =
+    (λ i. record { closed = sym c.replace-closed.ensures.value i; contents = sym c.replace-contents.ensures.value i; graph = sym c.replace-graph.ensures.value i; index = sym (c.with_room-index.ensures ∙ c.replace-index.ensures.value) i }) in
     subst (λ (p : Parts). ArePartsOf p.closed.entries p) same (its_parts s c.self.invariant)
 
 pub over-growing-requires-clause-held : goal.over-growing-requires-clause-held
@@ -118,7 +118,7 @@ returns-clause-ok c =
     let joined = unboxed c.in-Ok.settled.joined.items in
     let begun : g ≡ begins es = c.over-growing.ensures ∙ ap (λ l. begins l) (ap entries_of c.replace-closed.ensures.value) in
     let rest : members_of (h.old ++ h.fresh) ≡ D = did.rest ∙ sym (ap (λ (x : Grown). members_of x.old) c.growing.view_is) in
-    let count : c.count_of.result ≡ length joined = c.count_of.ensures ∙ ap length c.as_slice-2.ensures.value ∙ unboxed_length c.in-Ok.settled.joined.items in
+    let count : c.count_of.result ≡ length joined = c.count_of.ensures ∙ ap length c.as_slice-3.ensures.value ∙ unboxed_length c.in-Ok.settled.joined.items in
     let report : Report = record { added = c.count_of.result; waiting = c.count.result; rejected = c.in-Ok.settled.rejected } in
     subst (λ (o : Kept). Takes o L report (record { closed = D; waiting = waiting_of w })) c.self.view_is
     (takes es W L (members_of (g.old ++ g.fresh)) (members_of (h.old ++ h.fresh)) D (waiting_of w) joined (at_start es g begun) did.closed did.waiting did.stored did.joined rest
