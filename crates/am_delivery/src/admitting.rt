@@ -22,7 +22,7 @@ pub struct Gone {
     pub turned_away: Vec<Hash>,
 }
 
-/// Why a change with this verdict is rejected, or None where it fits.
+// Why a change with this verdict is rejected, or None where it fits.
 fn why_not(verdict: Verdict) -> Option<Why>
     ensures { MatchOption result (verdict ≡ Verdict.Fits) (λ why. (m : Member) (s : Sets) → admit_by verdict m s ≡ turned_away why m s) }
 {
@@ -36,8 +36,8 @@ fn why_not(verdict: Verdict) -> Option<Why>
     }
 }
 
-/// Admits or rejects the ready change of least hash, which is gone from then on, and answers whether there was one. One
-/// that joins is lent.
+// Admits or rejects the ready change of least hash, which is gone from then on, and answers whether there was one. One
+// that joins is lent.
 fn admit_next<'a, S: Closed>(
     alloc: Global,
     closed: &mut S,

@@ -24,7 +24,7 @@ pub fn is_same(held: &Change, change: &Change) -> bool
     held == change
 }
 
-/// Whether the closed change with this hash is equal to that one, or None where there is none.
+// Whether the closed change with this hash is equal to that one, or None where there is none.
 fn compared<S: Closed>(
     alloc: Global,
     closed: &S,
@@ -54,8 +54,8 @@ pub fn lacking<S: Closed>(alloc: Global, closed: &S, deps: &[Hash]) -> Result<Ve
     Ok(found)
 }
 
-/// A change joins the waiting ones, unless one of these has its hash: then it is told whether that one is equal to it. Its
-/// hash is put down too, so that without memory it can be taken out again.
+// A change joins the waiting ones, unless one of these has its hash: then it is told whether that one is equal to it. Its
+// hash is put down too, so that without memory it can be taken out again.
 fn put(
     alloc: Global,
     waiting: &mut BTreeMap<Hash, Box<Change>>,
@@ -80,7 +80,7 @@ fn put(
     }
 }
 
-/// Rejects a change whose hash another has, unless the two are equal.
+// Rejects a change whose hash another has, unless the two are equal.
 fn tell(rejected: &mut Vec<Rejected>, hash: Hash, same: bool) -> Result<(), AllocError>
     ensures { OnOk result (vec_items rejected.new ≡ (if same then vec_items rejected.old else vec_items rejected.old ++ record { hash = hash; why = Why.HashClash } ∷ [])) }
 {
@@ -93,8 +93,8 @@ fn tell(rejected: &mut Vec<Rejected>, hash: Hash, same: bool) -> Result<(), Allo
     Ok(())
 }
 
-/// A change that is held is skipped, one whose hash another change has is rejected, and any other joins the waiting
-/// ones.
+// A change that is held is skipped, one whose hash another change has is rejected, and any other joins the waiting
+// ones.
 fn receive_one<S: Closed>(
     alloc: Global,
     closed: &S,

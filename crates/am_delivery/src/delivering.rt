@@ -25,7 +25,7 @@ pub struct Settled {
     pub rejected: List<Rejected>,
 }
 
-/// What the waiting changes lack.
+// What the waiting changes lack.
 fn enter_all<S: Closed>(
     alloc: Global,
     closed: &S,
@@ -42,7 +42,7 @@ fn enter_all<S: Closed>(
     Ok(pending)
 }
 
-/// What the waiting changes lack, which is taken out of where it is kept or, where it isn't kept, found anew.
+// What the waiting changes lack, which is taken out of where it is kept or, where it isn't kept, found anew.
 fn take_pending<S: Closed>(
     alloc: Global,
     closed: &S,
@@ -60,7 +60,7 @@ fn take_pending<S: Closed>(
     }
 }
 
-/// What is kept of what the waiting changes lack: nothing where none waits.
+// What is kept of what the waiting changes lack: nothing where none waits.
 fn kept(waiting: &BTreeMap<Hash, Box<Change>>, pending: Pending) -> Option<Pending>
     ensures { IfSome result (λ kept. kept ≡ pending) }
 {
@@ -81,7 +81,7 @@ struct Outcome {
     rejected: Vec<Rejected>,
 }
 
-/// Settles, and then the closed set comes to rest. Those that wait no longer stay in the map.
+// Settles, and then the closed set comes to rest. Those that wait no longer stay in the map.
 fn bring_to_rest<S: Closed>(
     alloc: Global,
     closed: &mut S,
@@ -114,8 +114,8 @@ fn bring_to_rest<S: Closed>(
     })
 }
 
-/// Delivers changes, but leaves those that wait no longer in the map. The hashes of those that have come into it are put
-/// down. The closed set comes to rest. Then nothing is left that can fail.
+// Delivers changes, but leaves those that wait no longer in the map. The hashes of those that have come into it are put
+// down. The closed set comes to rest. Then nothing is left that can fail.
 fn take_up<S: Closed>(
     alloc: Global,
     closed: &mut S,

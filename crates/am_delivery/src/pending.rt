@@ -15,7 +15,7 @@ use am_types::Hash;
 use std::alloc::{AllocError, Global};
 use std::collections::{BTreeMap, BTreeSet, HashMap};
 
-/// One dependency less is missing of the change with this hash. Says whether none is missing any more.
+// One dependency less is missing of the change with this hash. Says whether none is missing any more.
 fn count_down(missing: &mut HashMap<Hash, u64>, h: &Hash) -> bool
     requires { 1 ≤ count_at (get is_equal missing.old) h.now }
     ensures one { count_at (get is_equal missing.new) h.now + 1 ≡ count_at (get is_equal missing.old) h.now }
@@ -29,7 +29,7 @@ fn count_down(missing: &mut HashMap<Hash, u64>, h: &Hash) -> bool
     *n == 0
 }
 
-/// Each of these changes has one dependency less missing, and with none left it is ready.
+// Each of these changes has one dependency less missing, and with none left it is ready.
 fn release(
     missing: &mut HashMap<Hash, u64>,
     ready: &mut BTreeSet<Hash>,
@@ -47,7 +47,7 @@ fn release(
     Ok(())
 }
 
-/// Adds a hash to a list. The first takes no more room than it needs, since most lists have no other.
+// Adds a hash to a list. The first takes no more room than it needs, since most lists have no other.
 fn add(alloc: Global, list: &mut Vec<Hash>, h: Hash) -> Result<(), AllocError>
     ensures { OnOk result (vec_items list.new ≡ vec_items list.old ++ h ∷ []) }
 {
@@ -58,7 +58,7 @@ fn add(alloc: Global, list: &mut Vec<Hash>, h: Hash) -> Result<(), AllocError>
     Ok(())
 }
 
-/// One more change waits for a dependency.
+// One more change waits for a dependency.
 fn note(
     alloc: Global,
     waiting_for: &mut BTreeMap<Hash, Vec<Hash>>,
@@ -73,7 +73,7 @@ fn note(
     Ok(())
 }
 
-/// One more change waits for each of these dependencies.
+// One more change waits for each of these dependencies.
 fn note_all(
     alloc: Global,
     waiting_for: &mut BTreeMap<Hash, Vec<Hash>>,

@@ -5,7 +5,7 @@ ghost use Rattle.am_delta.specs.Deltas.{AllBetween, sums_from, sum_after, stretc
 use crate::arithmetic::{narrow, times};
 use am_runs::SignedCursor;
 
-/// The sum after so many steps, if that is between.
+// The sum after so many steps, if that is between.
 fn end_between(value: i64, difference: i64, k: u64, low: i64, high: i64) -> Option<i64>
     ensures some { IfSome result (λ end. (end ≡ value +ℤ pos k *ℤ difference) × (low ≤ℤ end) × (end ≤ℤ high)) }
     ensures none { IfNone result (low ≤ℤ (value +ℤ pos k *ℤ difference) → (value +ℤ pos k *ℤ difference) ≤ℤ high → ⊥) }
@@ -62,7 +62,7 @@ fn number_between(value: i64, difference: i64, k: u64, low: i64, high: i64) -> O
     }
 }
 
-/// The sum after k times this difference, if each sum on the way is between.
+// The sum after k times this difference, if each sum on the way is between.
 fn all_between(value: i64, difference: Option<i64>, k: u64, low: i64, high: i64) -> Option<i64>
     requires { 1 ≤ k }
     ensures some { IfSome result (λ end. (end ≡ sum_after value difference k) × AllBetween low high (sums_from value (replicate k difference))) }

@@ -128,7 +128,7 @@ impl<'a> Ancestors<'a> {
     }
 }
 
-/// What is known of the actor, and whether that was not kept yet.
+// What is known of the actor, and whether that was not kept yet.
 fn ask<'a>(
     recent: &Recent<'a>,
     reached: &Reached<'_>,
@@ -151,7 +151,7 @@ fn ask<'a>(
     (asked_of(reached, table, actor), true)
 }
 
-/// What is kept of the actor.
+// What is kept of the actor.
 fn known<'a>(others: &[Asked<'a>], actor: &[u8]) -> Option<Asked<'a>>
     ensures among { IfSome result (λ a. Contains others.now a) }
     ensures actor { IfSome result (λ a. a.actor.now ≡ actor.now) }
@@ -165,7 +165,7 @@ fn known<'a>(others: &[Asked<'a>], actor: &[u8]) -> Option<Asked<'a>>
     None
 }
 
-/// Nothing but this one.
+// Nothing but this one.
 fn recent_of<'a>(asked: Asked<'a>) -> Recent<'a>
     ensures { (clock : List (List ℕ × Reach)) (t : Table) → IsPast clock t asked.entry → AreRecent clock t result }
 {
@@ -176,7 +176,7 @@ fn recent_of<'a>(asked: Asked<'a>) -> Recent<'a>
     }
 }
 
-/// Puts one in the place of the last and, if it is new, among the others.
+// Puts one in the place of the last and, if it is new, among the others.
 fn keep<'a>(recent: &mut Recent<'a>, asked: Asked<'a>, is_new: bool)
     ensures last { recent.new.last ≡ asked.entry }
     ensures others { recent.new.others ≡ cond is_new (set recent.old.others (recent.old.turn % 6) asked.entry) recent.old.others }
@@ -191,7 +191,7 @@ fn keep<'a>(recent: &mut Recent<'a>, asked: Asked<'a>, is_new: bool)
     }
 }
 
-/// What the clock and the table tell of an actor.
+// What the clock and the table tell of an actor.
 fn asked_of<'a>(reached: &Reached<'_>, table: &'a Table, actor: &'a [u8]) -> Asked<'a>
     ensures actor { result.actor.now ≡ actor.now }
     ensures author { result.author ≡ number (words_of table.now.texts).authors actor.now }

@@ -50,14 +50,14 @@ pub fn fits<C: ReadChange>(
     Ok(Verdict::Fits)
 }
 
-/// Whether the actor's change before this one is not among the ancestors.
+// Whether the actor's change before this one is not among the ancestors.
 fn has_gap<C: ReadChange>(reached: &Reached<'_>, change: &C) -> bool
     ensures { result ≡ (nat_lt 1 (C.change change.now).seq && nat_lt (reach_of reached.now (C.change change.now).actor).seq ((C.change change.now).seq - 1)) }
 {
     change.seq() > 1 && reached.last_seq(change.actor().as_slice()) < change.seq() - 1
 }
 
-/// The first dependency that ends at the start or above.
+// The first dependency that ends at the start or above.
 fn low_dependency<C: ReadChange>(graph: &Graph, change: &C) -> Option<Hash>
     ensures { ForSet graph.now (λ D. result ≡ find (λ h. option_map_or (λ m. nat_le (C.change change.now).start (max m.change)) (member D h) false) (C.change change.now).deps) }
 {
@@ -69,7 +69,7 @@ fn low_dependency<C: ReadChange>(graph: &Graph, change: &C) -> Option<Hash>
     None
 }
 
-/// Whether the change with the hash ends at the start or above.
+// Whether the change with the hash ends at the start or above.
 fn is_low(graph: &Graph, hash: &Hash, start: u64) -> bool
     ensures { ForSet graph.now (λ C. result ≡ option_map_or (λ m. nat_le start (max m.change)) (member C hash.now) false) }
 {

@@ -27,7 +27,7 @@ pub(crate) fn first_bad<'a, C: ReadChange>(
     None
 }
 
-/// Whether an operation at the place in the change names what is there.
+// Whether an operation at the place in the change names what is there.
 fn is_good<'a, C: ReadChange>(
     ancestors: &mut Ancestors<'a>,
     change: &'a C,
@@ -47,7 +47,7 @@ fn is_good<'a, C: ReadChange>(
     preds_are_known(ancestors, change, place, op)
 }
 
-/// Whether the object is there, and takes the key. Mostly it is the ancestors' operation that was found last.
+// Whether the object is there, and takes the key. Mostly it is the ancestors' operation that was found last.
 fn object_takes<'a, C: ReadChange>(
     ancestors: &mut Ancestors<'a>,
     change: &'a C,
@@ -68,7 +68,7 @@ fn object_takes<'a, C: ReadChange>(
     }
 }
 
-/// Whether the element of the key, if it is one, was inserted into the object.
+// Whether the element of the key, if it is one, was inserted into the object.
 fn element_is_known<'a, C: ReadChange>(
     ancestors: &mut Ancestors<'a>,
     change: &'a C,
@@ -90,7 +90,7 @@ fn element_is_known<'a, C: ReadChange>(
     }
 }
 
-/// Whether each predecessor is there, and gives a value to the same slot.
+// Whether each predecessor is there, and gives a value to the same slot.
 fn preds_are_known<'a, C: ReadChange>(
     ancestors: &mut Ancestors<'a>,
     change: &'a C,
@@ -114,7 +114,7 @@ fn preds_are_known<'a, C: ReadChange>(
     true
 }
 
-/// Whether an operation with the id is there, and gives a value to the slot of the object.
+// Whether an operation with the id is there, and gives a value to the slot of the object.
 fn pred_is_known<'a, C: ReadChange>(
     ancestors: &mut Ancestors<'a>,
     change: &'a C,
@@ -132,7 +132,7 @@ fn pred_is_known<'a, C: ReadChange>(
     gives_to(ancestors.find(pred), object, slot)
 }
 
-/// The operation with the id, where it is one of the change before the place.
+// The operation with the id, where it is one of the change before the place.
 #[inline(always)]
 fn own<'a, C: ReadChange>(change: &'a C, id: IdRef<'a>, place: usize) -> Option<Seen<'a>>
     ensures { option_map fact_shown result ≡ own_fact (C.change change.now) place (id_of id.entry) }

@@ -16,7 +16,7 @@ pub(crate) struct Run {
 }
 
 impl Run {
-    /// Those at places below the bound.
+    // Those at places below the bound.
     fn below(self, bound: usize) -> Run
         ensures { result ≡ run_below bound self }
     {
@@ -27,7 +27,7 @@ impl Run {
     }
 }
 
-/// How many runs start at the counter or below. Mostly all do, or what is asked is near the end.
+// How many runs start at the counter or below. Mostly all do, or what is asked is near the end.
 fn upto(runs: &[Run], counter: u64) -> usize
     requires { AllPairs Apart runs.now }
     ensures within { result ≤ length runs.now }
@@ -68,7 +68,7 @@ pub(crate) fn place_of(runs: &[Run], counter: u64) -> Option<usize>
     }
 }
 
-/// The two runs as one, where the other goes on where this one ends.
+// The two runs as one, where the other goes on where this one ends.
 fn joined(last: Run, run: Run) -> Option<Run>
     ensures some { IfSome result (GoesOn last run) }
     ensures none { IfNone result ((longer : Run) → GoesOn last run longer → longer.count < 2 ^ 64 → ⊥) }
@@ -83,7 +83,7 @@ fn joined(last: Run, run: Run) -> Option<Run>
     Some(Run { count, ..last })
 }
 
-/// Makes the last run longer, where this one goes on where that ends. Says whether it did.
+// Makes the last run longer, where this one goes on where that ends. Says whether it did.
 fn lengthen(runs: &mut Vec<Run>, run: Run) -> bool
     ensures longer { result ≡ true → IsLengthened runs.old.items run runs.new.items }
     ensures same { result ≡ false → runs.new.items ≡ runs.old.items }
@@ -116,7 +116,7 @@ pub(crate) fn enter(runs: &mut Vec<Run>, run: Run) -> Result<(), AllocError>
     Ok(())
 }
 
-/// Keeps the operations at places below the bound.
+// Keeps the operations at places below the bound.
 fn cut(runs: &mut Vec<Run>, bound: usize)
     ensures { runs.new.items ≡ runs_below bound runs.old.items }
 {

@@ -76,7 +76,7 @@ struct Last<'a> {
 }
 
 impl Texts {
-    /// The key of an id.
+    // The key of an id.
     #[inline(always)]
     fn id<'a>(
         &mut self,
@@ -102,7 +102,7 @@ impl Texts {
         Ok(IdKey { author, counter })
     }
 
-    /// The key of an object.
+    // The key of an object.
     fn object<'a>(
         &mut self,
         alloc: Global,
@@ -123,7 +123,7 @@ impl Texts {
         }
     }
 
-    /// The key of a slot.
+    // The key of a slot.
     fn slot<'a>(
         &mut self,
         alloc: Global,
@@ -148,7 +148,7 @@ impl Texts {
         }
     }
 
-    /// What is kept of an operation with the id of this key.
+    // What is kept of an operation with the id of this key.
     fn kept<'a, O: ReadOp>(
         &mut self,
         alloc: Global,
@@ -175,7 +175,7 @@ impl Texts {
         })
     }
 
-    /// The id that a key means.
+    // The id that a key means.
     fn lend_id(&self, key: IdKey) -> IdRef<'_>
         ensures { id_of result ≡ id_in (words_of self.now) key }
     {
@@ -185,7 +185,7 @@ impl Texts {
         }
     }
 
-    /// The object that a key means.
+    // The object that a key means.
     fn lend_object(&self, key: ObjectKey) -> ObjRef<'_>
         ensures { object_of result ≡ object_in (words_of self.now) key }
     {
@@ -195,7 +195,7 @@ impl Texts {
         }
     }
 
-    /// The slot that a key means.
+    // The slot that a key means.
     fn lend_slot(&self, key: SlotKey) -> SlotRef<'_>
         ensures { slot_shown result ≡ slot_in (words_of self.now) key }
     {
@@ -279,8 +279,8 @@ impl Table {
         }
     }
 
-    /// Adds the operations of a change of the author. Without memory there may be more behind what is kept, and nothing
-    /// else has changed.
+    // Adds the operations of a change of the author. Without memory there may be more behind what is kept, and nothing
+    // else has changed.
     fn join<C: ReadChange>(
         &mut self,
         alloc: Global,
@@ -356,7 +356,7 @@ impl Table {
     }
 }
 
-/// Keeps each operation of a change of the author behind what is kept; without memory only some of them.
+// Keeps each operation of a change of the author behind what is kept; without memory only some of them.
 fn keep_each<C: ReadChange>(
     alloc: Global,
     texts: &mut Texts,

@@ -51,7 +51,7 @@ impl Totals {
     }
 }
 
-/// How many predecessors the operations have in all.
+// How many predecessors the operations have in all.
 fn pred_count<O: ReadOp>(ops: &[O]) -> u64
     requires { pred_count (map O.op ops.now) ≤ 2 ^ 22 }
     ensures { result ≡ pred_count (map O.op ops.now) }

@@ -28,7 +28,7 @@ fn put(done: &mut Vec<u8>, count: u64, flag: bool, next: bool, more: u64) -> Res
     Ok(more)
 }
 
-/// Writes the pending count, if there is one.
+// Writes the pending count, if there is one.
 fn ended(done: Vec<u8>, count: u64) -> Result<Vec<u8>, AllocError>
     requires { count < 2 ^ 63 }
     ensures { IfOk result (λ bytes. (flag : Bool) (list : List Bool) → HoldsFlags done.items flag count list → CanonFlags bytes.items list) }

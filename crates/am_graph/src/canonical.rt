@@ -29,7 +29,7 @@ impl Graph {
         Ok(List::from(hashes))
     }
 
-    /// The ranks of the changes, in the order in which they came.
+    // The ranks of the changes, in the order in which they came.
     fn ranks(&self, alloc: Global) -> Result<Vec<Rank<'_>>, AllocError>
         ensures { IfOk result (λ ranks. ForSet self.now (λ C. map rank_of ranks.items ≡ map (rank_in C) C)) }
     {
@@ -47,7 +47,7 @@ impl Graph {
     }
 }
 
-/// The hashes of the ranks.
+// The hashes of the ranks.
 fn hashes_of(alloc: Global, ranks: &[Rank<'_>]) -> Result<Vec<Hash>, AllocError>
     ensures { IfOk result (λ hashes. hashes.items ≡ map (λ r. r.hash) ranks.now) }
 {

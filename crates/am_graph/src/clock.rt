@@ -128,7 +128,7 @@ impl<'a> Reached<'a> {
     }
 }
 
-/// How far the table goes for the actor.
+// How far the table goes for the actor.
 fn reach_of(authors: &NumberedTexts, table: &[Reach], actor: &[u8]) -> Reach
     ensures { result ≡ reach_of (zip authors.now table.now) actor.now }
 {

@@ -18,7 +18,7 @@ impl Twin for Graph {
 }
 
 impl Parts {
-    /// The same changes and what is kept beside them, in memory of their own.
+    // The same changes and what is kept beside them, in memory of their own.
     fn copy(&self, alloc: Global) -> Result<Parts, AllocError>
         requires { IsWhole self.now }
         ensures whole { IfOk result (λ parts. IsWhole parts) }
@@ -37,7 +37,7 @@ impl Parts {
     }
 }
 
-/// The same changes in the same order.
+// The same changes in the same order.
 fn copy_changes(
     alloc: Global,
     held: &IndexMap<Hash, Node>,

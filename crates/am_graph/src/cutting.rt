@@ -21,7 +21,7 @@ impl Graph {
 }
 
 impl Parts {
-    /// Keeps the first `count` changes.
+    // Keeps the first `count` changes.
     fn cut(&mut self, count: usize)
         requires whole { IsWhole self.old }
         requires seqs { HasDistinctSeqs self.old.held.entries }
@@ -33,7 +33,7 @@ impl Parts {
         }
     }
 
-    /// The change that came last leaves.
+    // The change that came last leaves.
     fn drop_last(&mut self)
         requires whole { IsWhole self.old }
         requires some { 0 < length self.old.held.entries }
@@ -56,7 +56,7 @@ pub fn valid_sets_have_distinct_seqs()
     ensures { (C : List Member) → Valid C → HasDistinctSeqs (nodes C) }
 {}
 
-/// Keeps nothing any more for the author and the seq.
+// Keeps nothing any more for the author and the seq.
 fn forget(firsts: &mut BTreeMap<(usize, u64), Hash>, author: usize, seq: u64)
     ensures { Forgets (first_in firsts.old) (first_in firsts.new) author seq }
 {

@@ -92,7 +92,7 @@ impl Graph {
         Ok(Added::New)
     }
 
-    /// What is answered where the hash is held.
+    // What is answered where the hash is held.
     fn compared(
         &self,
         hash: &Hash,
@@ -110,7 +110,7 @@ impl Graph {
         }
     }
 
-    /// The first of these hashes that is not held. They are looked for at the guess first.
+    // The first of these hashes that is not held. They are looked for at the guess first.
     fn first_missing(&self, hashes: &[Hash], guess: usize) -> Option<Hash>
         ensures { result ≡ missing self.now hashes.now }
     {
@@ -122,7 +122,7 @@ impl Graph {
         None
     }
 
-    /// Adds a change at the end. Its dependencies are looked for at the guess first.
+    // Adds a change at the end. Its dependencies are looked for at the guess first.
     fn join(
         &mut self,
         alloc: Global,
@@ -160,7 +160,7 @@ impl Graph {
         Ok(List::from(found))
     }
 
-    /// The hashes of the ancestors.
+    // The hashes of the ancestors.
     fn wanted(&self, alloc: Global, heads: &[Hash]) -> Result<HashSet<Hash>, ClockFault>
         ensures ok { IfOk result (λ wanted. TellsAncestors self.now heads.now (has wanted)) }
         ensures held { OnOk result (All (λ h. is_held self.now h ≡ true) heads.now) }
@@ -202,7 +202,7 @@ pub(crate) fn pick(found: &mut Vec<Hash>, hash: Hash, is_picked: bool) -> Result
     Ok(())
 }
 
-/// What is answered to a change where this one is held with its hash.
+// What is answered to a change where this one is held with its hash.
 fn answer(held: &Node, actor: &ActorId, seq: u64, start: u64, count: u64, deps: &[Hash]) -> Added
     ensures { Answers result (Some held.now) (record { actor = actor.now; seq = seq; start = start; count = count; deps = deps.now }) }
 {
@@ -213,7 +213,7 @@ fn answer(held: &Node, actor: &ActorId, seq: u64, start: u64, count: u64, deps: 
     }
 }
 
-/// Whether each part is equal.
+// Whether each part is equal.
 fn is_same(held: &Node, actor: &ActorId, seq: u64, start: u64, count: u64, deps: &[Hash]) -> bool
     ensures { result ≡ same_node held.now (record { actor = actor.now; seq = seq; start = start; count = count; deps = deps.now }) }
 {

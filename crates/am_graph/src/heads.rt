@@ -25,7 +25,7 @@ impl Graph {
         Ok(List::from(found))
     }
 
-    /// For each change, whether another has it as a dependency.
+    // For each change, whether another has it as a dependency.
     fn named(&self, alloc: Global) -> Result<Vec<bool>, AllocError>
         ensures len { IfOk result (λ named. length named.items ≡ length self.now) }
         ensures named { IfOk result (λ named. (k : ℕ) (b : Bool) (e : Hash × Node) → k < length self.now → slice_index_or named.items k b ≡ is_named_in self.now (slice_index_or self.now k e).0) }

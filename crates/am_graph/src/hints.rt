@@ -12,7 +12,7 @@ pub struct Hints {
     numbers: Vec<u32>,
 }
 
-/// The slot of a text among so many, a power of two.
+// The slot of a text among so many, a power of two.
 fn slot_of(text: &[u8], slots: usize) -> usize {
     let mut mixed = text.len() as u64;
     for i in text.len().saturating_sub(SHORT)..text.len() {

@@ -54,7 +54,7 @@ impl NumberedTexts {
         self.texts.len()
     }
 
-    /// The number of the text, if a hint tells it.
+    // The number of the text, if a hint tells it.
     fn hinted(&self, text: &[u8]) -> Option<usize>
         ensures { IfSome result (λ n. number self.now text.now ≡ Some n) }
     {
@@ -78,7 +78,7 @@ impl NumberedTexts {
         self.sought(text)
     }
 
-    /// The same by the maps.
+    // The same by the maps.
     fn sought(&self, text: &[u8]) -> Option<usize>
         ensures { result ≡ number self.now text.now }
     {
@@ -122,7 +122,7 @@ impl NumberedTexts {
     }
 }
 
-/// Notes the number of a text, in the map for texts of its length.
+// Notes the number of a text, in the map for texts of its length.
 fn note(
     short: &mut BTreeMap<(u128, usize), usize>,
     long: &mut BTreeMap<Vec<u8>, usize>,

@@ -122,12 +122,12 @@ impl Parts {
         })
     }
 
-    /// From so many changes of a walk on a table is kept. No contract speaks of it.
+    // From so many changes of a walk on a table is kept. No contract speaks of it.
     fn step(&self) -> u64 {
         FEWEST_CHANGES + self.authors.len() as u64 / AUTHORS_A_CHANGE
     }
 
-    /// The depth of a change with these dependencies.
+    // The depth of a change with these dependencies.
     fn depth_above(&self, deps: &[Hash], guess: usize) -> u64
         requires whole { IsWhole self.now }
         requires held { missing self.now.held.entries deps.now ≡ None }
@@ -142,7 +142,7 @@ impl Parts {
         depth
     }
 
-    /// How many changes a walk from one with these dependencies may visit, if no table is kept beside that one.
+    // How many changes a walk from one with these dependencies may visit, if no table is kept beside that one.
     fn away_above(&self, deps: &[Hash], guess: usize) -> u64
         requires { IsWhole self.now }
     {
@@ -176,7 +176,7 @@ impl Parts {
     }
 }
 
-/// Keeps the hash, where it is the least of its author's changes with this seq.
+// Keeps the hash, where it is the least of its author's changes with this seq.
 fn note(
     firsts: &mut BTreeMap<(usize, u64), Hash>,
     author: usize,
@@ -191,7 +191,7 @@ fn note(
     Ok(())
 }
 
-/// The lesser of the two hashes.
+// The lesser of the two hashes.
 fn least(first: Option<Hash>, hash: Hash) -> Hash
     ensures { result ≡ lesser first hash }
 {

@@ -56,7 +56,7 @@ impl Parts {
         Ok(table)
     }
 
-    /// Takes the change at the place into the table; its dependencies wait, unless its own table is taken in whole.
+    // Takes the change at the place into the table; its dependencies wait, unless its own table is taken in whole.
     fn visit(
         &self,
         place: usize,
@@ -85,7 +85,7 @@ impl Parts {
     }
 }
 
-/// Puts the places of the changes with these hashes among those that wait. They are looked for at the guess first.
+// Puts the places of the changes with these hashes among those that wait. They are looked for at the guess first.
 fn wait(
     held: &IndexMap<Hash, Node>,
     hashes: &[Hash],
@@ -109,7 +109,7 @@ fn wait(
     Ok(())
 }
 
-/// A table of no changes.
+// A table of no changes.
 fn blank(alloc: Global, authors: usize) -> Result<Vec<Reach>, AllocError>
     ensures { IfOk result (λ table. table.items ≡ replicate authors unreached) }
 {

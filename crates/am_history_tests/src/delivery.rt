@@ -147,7 +147,7 @@ fn changes(alloc: Global, samples: &[Sample]) -> Result<Vec<(Hash, Change)>, Fai
     Ok(changes)
 }
 
-/// The first bytes of the hashes.
+// The first bytes of the hashes.
 fn joined_bytes(alloc: Global, entries: &[(Hash, Box<Change>)]) -> Result<Vec<u8>, AllocError> {
     let mut bytes = Vec::new(alloc);
     for entry in entries {
@@ -167,15 +167,15 @@ fn waiting_bytes(
     Ok(bytes)
 }
 
-/// The bytes of the hashes of those that joined, the first that was rejected, and that there was memory.
+// The bytes of the hashes of those that joined, the first that was rejected, and that there was memory.
 fn told(alloc: Global, settled: &Settled) -> Result<(Vec<u8>, Option<Rejected>, bool), AllocError> {
     let bytes = joined_bytes(alloc, settled.joined.as_slice())?;
     let rejected = settled.rejected.as_slice().first().copied();
     Ok((bytes, rejected, true))
 }
 
-/// Delivers the changes. Answers the bytes of those that join, the first that is rejected, and whether there was memory;
-/// where there was none, the closed set is cut off.
+// Delivers the changes. Answers the bytes of those that join, the first that is rejected, and whether there was memory;
+// where there was none, the closed set is cut off.
 fn delivered(
     alloc: Global,
     closed: &mut SampleSet,

@@ -32,7 +32,7 @@ fn one<T: Drop>(alloc: Global, item: T) -> Result<List<T>, AllocError>
     Ok(list)
 }
 
-/// An operation that sets the name a of the root to null.
+// An operation that sets the name a of the root to null.
 fn set_a(alloc: Global, preds: List<OpId>) -> Result<Op, ActorFault>
     ensures { IfOk result (λ op. op ≡ set_a preds) }
 {
@@ -53,7 +53,7 @@ fn set_a(alloc: Global, preds: List<OpId>) -> Result<Op, ActorFault>
     })
 }
 
-/// A change of one such operation.
+// A change of one such operation.
 fn change(
     alloc: Global,
     seq: u64,
@@ -78,7 +78,7 @@ fn change(
     })
 }
 
-/// A change that depends on the first one, and has a predecessor with this counter.
+// A change that depends on the first one, and has a predecessor with this counter.
 fn second(alloc: Global, seq: u64, start: u64, pred: u64) -> Result<Change, ActorFault>
     ensures { IfOk result (λ c. c ≡ sample seq start (sevens ∷ []) (record { counter = pred; actor = aa } ∷ [])) }
 {
@@ -92,7 +92,7 @@ fn second(alloc: Global, seq: u64, start: u64, pred: u64) -> Result<Change, Acto
     change(alloc, seq, start, deps, preds)
 }
 
-/// Adds the first change.
+// Adds the first change.
 fn add(alloc: Global, graph: &mut Graph) -> Result<(), Fail>
     requires { graph.old ≡ [] }
     ensures { OnOk result (graph.new ≡ nodes (first ∷ [])) }
@@ -102,7 +102,7 @@ fn add(alloc: Global, graph: &mut Graph) -> Result<(), Fail>
     Ok(())
 }
 
-/// Takes the first change in.
+// Takes the first change in.
 fn admit(alloc: Global, index: &mut OpIndex) -> Result<(), Fail>
     requires { index.old ≡ index_of [] }
     ensures { OnOk result (index.new ≡ index_of (first.change ∷ [])) }
@@ -112,7 +112,7 @@ fn admit(alloc: Global, index: &mut OpIndex) -> Result<(), Fail>
     Ok(())
 }
 
-/// The verdict beside the first change on one with small numbers.
+// The verdict beside the first change on one with small numbers.
 fn judged(
     alloc: Global,
     graph: &Graph,
@@ -157,7 +157,7 @@ fn index_of_first(alloc: Global) -> Result<OpIndex, Fail>
     Ok(index)
 }
 
-/// The same with a copy of the index.
+// The same with a copy of the index.
 fn judge_by_copy(rt: &impl Abort, alloc: Global, graph: &Graph, index: &OpIndex) -> Result<(), Fail>
     requires graph { graph.now ≡ nodes (first ∷ []) }
     requires index { index.now ≡ index_of (first.change ∷ []) }

@@ -97,7 +97,7 @@ fn hashes(alloc: Global, bytes: &[u8]) -> Result<Vec<Hash>, Fail> {
     Ok(hashes)
 }
 
-/// The bytes that the hashes repeat.
+// The bytes that the hashes repeat.
 fn bytes(alloc: Global, hashes: &[Hash]) -> Result<Vec<u8>, Fail> {
     let mut bytes = Vec::new(alloc);
     for hash in hashes {
@@ -106,7 +106,7 @@ fn bytes(alloc: Global, hashes: &[Hash]) -> Result<Vec<u8>, Fail> {
     Ok(bytes)
 }
 
-/// Whether each hash is below the next.
+// Whether each hash is below the next.
 fn ascend(hashes: &[Hash]) -> bool
     ensures { IsTrue result ↔ Ascends hash_cmp hashes.now }
 {
@@ -118,7 +118,7 @@ fn ascend(hashes: &[Hash]) -> bool
     true
 }
 
-/// Adds a change whose dependencies ascend.
+// Adds a change whose dependencies ascend.
 fn add(
     graph: &mut Graph,
     alloc: Global,
@@ -193,7 +193,7 @@ fn finds_changes(rt: &impl Abort, graph: &Graph) {
     }
 }
 
-/// What is found with memory.
+// What is found with memory.
 fn lists_and_clocks(rt: &impl Abort, alloc: Global, graph: &Graph) -> Result<(), Fail> {
     lists_changes(rt, alloc, graph)?;
     tells_how_far_actors_go(rt, alloc, graph)
@@ -206,7 +206,7 @@ fn lists_changes(rt: &impl Abort, alloc: Global, graph: &Graph) -> Result<(), Fa
     Ok(())
 }
 
-/// The heads, all in order, and the ancestors of the merge.
+// The heads, all in order, and the ancestors of the merge.
 fn lists(alloc: Global, graph: &Graph) -> Result<(Vec<u8>, Vec<u8>, Vec<u8>), Fail> {
     let heads = graph.heads(alloc)?;
     let order = graph.order(alloc)?;
@@ -228,7 +228,7 @@ fn tells_how_far_actors_go(rt: &impl Abort, alloc: Global, graph: &Graph) -> Res
     Ok(())
 }
 
-/// What a clock says, and what one of a lent graph.
+// What a clock says, and what one of a lent graph.
 fn covered(alloc: Global, graph: &Graph, id: IdRef<'_>) -> Result<[(bool, u64, u64); 2], Fail> {
     let clock = graph.clock(alloc, MERGE)?;
     let reached = graph.reached(alloc, MERGE)?;
@@ -245,7 +245,7 @@ fn covered(alloc: Global, graph: &Graph, id: IdRef<'_>) -> Result<[(bool, u64, u
     Ok([clock, reached])
 }
 
-/// Adds a change of the chain.
+// Adds a change of the chain.
 fn add_link(graph: &mut Graph, alloc: Global, byte: u8) -> Result<(), Fail> {
     let turn = u16::from(byte) + 1;
     let below = [byte.saturating_sub(1)];
@@ -254,7 +254,7 @@ fn add_link(graph: &mut Graph, alloc: Global, byte: u8) -> Result<(), Fail> {
     Ok(())
 }
 
-/// Adds a change of the second chain, but for its first.
+// Adds a change of the second chain, but for its first.
 fn add_behind(graph: &mut Graph, alloc: Global, byte: u8) -> Result<(), Fail> {
     let turn = u16::from(byte.saturating_sub(100));
     let below = [100, byte.saturating_sub(1)];
@@ -293,7 +293,7 @@ fn tells_last_seqs(rt: &impl Abort, alloc: Global, graph: &Graph) -> Result<(), 
     Ok(())
 }
 
-/// The last seqs of the three actors at a change.
+// The last seqs of the three actors at a change.
 fn last_seqs(alloc: Global, graph: &Graph, byte: u8) -> Result<[u64; 3], Fail> {
     let clock = graph.clock(alloc, &[hash(byte)])?;
     Ok([clock.last_seq(AA), clock.last_seq(BB), clock.last_seq(CC)])

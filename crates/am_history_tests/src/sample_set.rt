@@ -17,7 +17,7 @@ fn is_hash(held: &Hash, hash: &Hash) -> bool
     hash.cmp(held).is_eq()
 }
 
-/// The change with this hash.
+// The change with this hash.
 fn found<'a>(held: &'a [(Hash, Change)], hash: &Hash) -> Option<&'a Change>
     ensures { option_map (λ c. c.now) result ≡ option_map (λ m. m.change) (member (members_of held.now) hash.now) }
 {
@@ -29,14 +29,14 @@ fn found<'a>(held: &'a [(Hash, Change)], hash: &Hash) -> Option<&'a Change>
     None
 }
 
-/// Whether two changes have one actor and one seq.
+// Whether two changes have one actor and one seq.
 fn is_clash(held: &Change, change: &Change) -> bool
     ensures { result ≡ (same_bytes held.now.actor change.now.actor && held.now.seq == change.now.seq) }
 {
     held.actor == change.actor && held.seq == change.seq
 }
 
-/// The hash of the change with the actor and the seq of this one.
+// The hash of the change with the actor and the seq of this one.
 fn clashing(held: &[(Hash, Change)], change: &Change) -> Option<Hash>
     ensures { result ≡ option_map (λ m. m.hash) (find (has_seq change.now.actor change.now.seq) (members_of held.now)) }
 {

@@ -15,7 +15,7 @@ use crate::mention::Named;
 use am_types::Meta;
 use std::alloc::{AllocError, Global};
 
-/// Takes in what was built of a meta, where it is a change that joins.
+// Takes in what was built of a meta, where it is a change that joins.
 fn join_next<'a>(
     alloc: Global,
     gathered: &mut Gathered<'a>,

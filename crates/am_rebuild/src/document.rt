@@ -20,7 +20,7 @@ use am_doc::{DocRef, spelled_tables_are_sound};
 use am_types::{Change, Hash, List};
 use std::alloc::{AllocError, Global};
 
-/// The stated heads, owned.
+// The stated heads, owned.
 fn heads_in(alloc: Global, doc: &DocRef<'_>) -> Result<List<Hash>, AllocError>
     ensures { IfOk result (λ heads. heads ≡ doc.now.heads) }
 {
@@ -34,7 +34,7 @@ fn heads_in(alloc: Global, doc: &DocRef<'_>) -> Result<List<Hash>, AllocError>
     Ok(heads)
 }
 
-/// The answer for the document, whose rows are let go behind it.
+// The answer for the document, whose rows are let go behind it.
 fn answered(alloc: Global, doc: &DocRef<'_>) -> Result<Rebuilt, RebuildFault>
     requires { IsSound doc.now }
     ensures judged { Rebuilds doc.now (changes_rebuilt result) }
@@ -58,7 +58,7 @@ fn answered(alloc: Global, doc: &DocRef<'_>) -> Result<Rebuilt, RebuildFault>
     answer(alloc, gathered, judgement)
 }
 
-/// What is answered where this is found.
+// What is answered where this is found.
 fn answer(
     alloc: Global,
     gathered: Gathered<'_>,

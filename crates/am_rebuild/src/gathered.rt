@@ -44,7 +44,7 @@ impl<'a> Model for Gathered<'a> {
     ghost invariant = { λ g. AreGathered g.entries.items g.graph g.index g.lasts.entries };
 }
 
-/// Whether all of these are hashes of changes of the graph.
+// Whether all of these are hashes of changes of the graph.
 fn holds_all(graph: &Graph, hashes: &[Hash]) -> bool
     ensures { ForSet graph.now (λ C. result ≡ list_all (holds C) hashes.now) }
 {
@@ -76,7 +76,7 @@ pub(crate) fn may_join<C: ReadChange>(
     Ok(matches!(verdict, Verdict::Fits))
 }
 
-/// Takes a change into both, or into neither.
+// Takes a change into both, or into neither.
 fn enter<C: ReadChange>(
     alloc: Global,
     graph: &mut Graph,
@@ -108,7 +108,7 @@ fn enter<C: ReadChange>(
     Ok(())
 }
 
-/// The counter of the last operation of a change.
+// The counter of the last operation of a change.
 fn last_of<C: ReadChange>(change: &C) -> u64
     requires { Fine (C.change change.now) }
     ensures { result ≡ max (C.change change.now) }

@@ -33,7 +33,7 @@ fn compare_hashes(a: &Hash, b: &Hash) -> Ordering
     a.0.as_slice().cmp(b.0.as_slice())
 }
 
-/// Whether each actor is below the next.
+// Whether each actor is below the next.
 fn actors_ascend(actors: &[ActorId]) -> bool
     ensures { IsTrue result ↔ Ascends bytes_cmp actors.now }
 {
@@ -45,7 +45,7 @@ fn actors_ascend(actors: &[ActorId]) -> bool
     true
 }
 
-/// The first difference of two ascending lists.
+// The first difference of two ascending lists.
 fn first_apart(a: &[Hash], b: &[Hash]) -> Option<Hash>
     ensures { result ≡ first_apart a.now b.now }
 {

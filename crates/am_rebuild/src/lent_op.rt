@@ -27,7 +27,7 @@ impl<'a> Model for LentOp<'a> {
     ghost view = { lent_op };
 }
 
-/// The slot of a row.
+// The slot of a row.
 fn slot_key<'a>(row: &LentRow<'a>) -> KeyRef<'a>
     ensures { key_of result ≡ slot_of row.now }
 {

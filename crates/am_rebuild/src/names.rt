@@ -20,7 +20,7 @@ pub(crate) fn names_in(alloc: Global, actors: &[ActorId]) -> Result<Vec<&[u8]>, 
     Ok(names)
 }
 
-/// Whether the actor stands at the place.
+// Whether the actor stands at the place.
 fn is_at(names: &[&[u8]], place: usize, actor: &[u8]) -> bool
     ensures { IsTrue result → IsPlaceOf (names_of names.now) actor.now place }
 {

@@ -12,7 +12,7 @@ use am_types::{KeyRef, compare_ids, compare_objects, same_key};
 use std::alloc::{AllocError, Global};
 use std::cmp::Ordering;
 
-/// What the row gives a value to.
+// What the row gives a value to.
 fn slot<'a>(row: &LentRow<'a>) -> KeyRef<'a>
     ensures { key_of result ≡ slot_of row.now }
 {
@@ -34,14 +34,14 @@ fn slot_follows(a: KeyRef<'_>, b: KeyRef<'_>) -> bool
     }
 }
 
-/// The row may be the first of its slot.
+// The row may be the first of its slot.
 fn opens(row: &LentRow<'_>) -> bool
     ensures { result ≡ may_open row.now }
 {
     row.insert || matches!(row.key, KeyRef::Name(_))
 }
 
-/// In one object: in the same slot a greater id, or a new slot.
+// In one object: in the same slot a greater id, or a new slot.
 fn follows_in(last: &LentRow<'_>, row: &LentRow<'_>) -> bool
     ensures { result ≡ may_come_in last.now row.now }
 {
@@ -53,7 +53,7 @@ fn follows_in(last: &LentRow<'_>, row: &LentRow<'_>) -> bool
     }
 }
 
-/// The row may come directly behind the last, whose object comes so to that of the row.
+// The row may come directly behind the last, whose object comes so to that of the row.
 fn follows(objects: Ordering, last: &LentRow<'_>, row: &LentRow<'_>) -> bool
     ensures { result ≡ by_object objects last.now row.now }
 {
@@ -64,7 +64,7 @@ fn follows(objects: Ordering, last: &LentRow<'_>, row: &LentRow<'_>) -> bool
     }
 }
 
-/// The path after the row.
+// The path after the row.
 fn walk_on<'a>(stack: &mut Vec<StopRef<'a>>, row: &LentRow<'a>) -> Result<(), AllocError>
     ensures { OnOk result (path_of stack.new.items ≡ moved (path_of stack.old.items) row.now) }
 {
@@ -75,7 +75,7 @@ fn walk_on<'a>(stack: &mut Vec<StopRef<'a>>, row: &LentRow<'a>) -> Result<(), Al
     Ok(())
 }
 
-/// Takes the row behind the last, where it may come there, and the path on.
+// Takes the row behind the last, where it may come there, and the path on.
 fn take_row<'a>(
     stack: &mut Vec<StopRef<'a>>,
     last: &LentRow<'_>,

@@ -23,7 +23,7 @@ fn is_open(last: Option<IdRef<'_>>, id: IdRef<'_>) -> bool
     }
 }
 
-/// How many of the stack are left when the key is on top.
+// How many of the stack are left when the key is on top.
 fn depth_of(stack: &[StopRef<'_>], key: KeyRef<'_>) -> usize
     ensures within { result ≤ length stack.now }
     ensures back { path_of (take result stack.now) ≡ back_to (key_of key.entry) (path_of stack.now) }

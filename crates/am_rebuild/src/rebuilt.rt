@@ -39,7 +39,7 @@ fn entry_owned(
     Ok((hash, owned))
 }
 
-/// The changes, owned, each behind its hash. One after another is let go where it was lent.
+// The changes, owned, each behind its hash. One after another is let go where it was lent.
 fn entries_owned(
     alloc: Global,
     lent: Vec<(Hash, LentChange<'_>)>,

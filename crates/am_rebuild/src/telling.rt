@@ -25,7 +25,7 @@ fn is_last(last: Option<IdRef<'_>>, id: IdRef<'_>) -> bool
     }
 }
 
-/// How many ids are mentioned.
+// How many ids are mentioned.
 fn count_ids(all: &[Named<'_>]) -> usize
     ensures { result ≡ ids_behind None (map (λ n. id_of n.id) all.now) }
 {
@@ -40,7 +40,7 @@ fn count_ids(all: &[Named<'_>]) -> usize
     count
 }
 
-/// Whether no two rows have one id.
+// Whether no two rows have one id.
 fn own_ids_differ(all: &[Named<'_>]) -> bool
     ensures { result ≡ differ_from None (map (λ n. id_of n.id) (filter (λ n. n.own) all.now)) }
 {
@@ -56,7 +56,7 @@ fn own_ids_differ(all: &[Named<'_>]) -> bool
     true
 }
 
-/// Whether each id is below the next.
+// Whether each id is below the next.
 fn ids_ascend(ids: &[IdRef<'_>]) -> bool
     ensures { IsTrue result ↔ Ascends (on id_of id_cmp) ids.now }
 {
@@ -68,14 +68,14 @@ fn ids_ascend(ids: &[IdRef<'_>]) -> bool
     true
 }
 
-/// Whether the succs of the row ascend.
+// Whether the succs of the row ascend.
 fn succs_ascend(row: &LentRow<'_>) -> bool
     ensures { IsTrue result ↔ Ascends id_cmp row.now.succs }
 {
     ids_ascend(row.succs.as_slice())
 }
 
-/// Whether the row is no deletion's, and its succs ascend.
+// Whether the row is no deletion's, and its succs ascend.
 fn is_kept(row: &LentRow<'_>) -> bool
     ensures { IsTrue result ↔ ((row.now.action ≢ actions.del) × Ascends id_cmp row.now.succs) }
 {

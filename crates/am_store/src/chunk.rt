@@ -40,7 +40,7 @@ impl From<AllocError> for ChunkFault {
     }
 }
 
-/// The same fault, as one of a file.
+// The same fault, as one of a file.
 fn fault_of(fault: FrameFault) -> LoadFault
     ensures { (only : Bool) (bytes : List ℕ) → frame.HasFault bytes fault → HasFault only bytes result }
 {
@@ -54,7 +54,7 @@ fn fault_of(fault: FrameFault) -> LoadFault
     }
 }
 
-/// Appends the change of a chunk with these contents and this hash. Its actors share their bytes with those before.
+// Appends the change of a chunk with these contents and this hash. Its actors share their bytes with those before.
 fn push_change(
     alloc: Global,
     actors: &mut SharedActors,
@@ -80,7 +80,7 @@ fn push_change(
     Ok(())
 }
 
-/// Why a document isn't read whose changes aren't rebuilt for this.
+// Why a document isn't read whose changes aren't rebuilt for this.
 fn not_rebuilt(fault: RebuildFault) -> ChunkFault
     ensures { (contents : List ℕ) (t : ATable) → IsChunk (chunk_of 0 contents) → Judges contents (Ok t) → Rebuilds t (Err fault) → MatchBad result (IsWrongWith false (chunk_of 0 contents)) }
 {
@@ -92,7 +92,7 @@ fn not_rebuilt(fault: RebuildFault) -> ChunkFault
     }
 }
 
-/// Appends the changes of a document chunk with these contents.
+// Appends the changes of a document chunk with these contents.
 fn push_document<'a>(
     alloc: Global,
     contents: &'a [u8],

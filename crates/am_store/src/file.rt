@@ -13,7 +13,7 @@ use crate::file_changes::FileChanges;
 use am_types::SharedActors;
 use std::alloc::Global;
 
-/// Why a file isn't read where this is wrong with the chunk of this number.
+// Why a file isn't read where this is wrong with the chunk of this number.
 fn refused(chunk: u64, fault: ChunkFault) -> ReadFault
     ensures { (only : Bool) (bytes : List ℕ) → MatchBad fault (HasFault only bytes) → MatchLoad result (λ e. (e.chunk ≡ chunk) × HasFault only bytes e.fault) }
 {

@@ -102,7 +102,7 @@ impl<'a> FileChanges<'a> {
         self.go_on(entries_of(document))
     }
 
-    /// The changes of a document, where there are none yet.
+    // The changes of a document, where there are none yet.
     fn begin(&mut self, alloc: Global, document: Rebuilt, doc: DocRef<'a>) -> Result<(), AllocError>
         requires none { self.old ≡ [] }
         requires of_set { AreOf (members_of (vec_items document.entries)) document.graph document.index }
@@ -121,7 +121,7 @@ impl<'a> FileChanges<'a> {
         Ok(())
     }
 
-    /// More changes, behind those that are there.
+    // More changes, behind those that are there.
     fn go_on(&mut self, mut more: Vec<(Hash, Change)>) -> Result<(), AllocError>
         ensures { OnOk result (self.new ≡ self.old ++ vec_items more) }
     {

@@ -46,7 +46,7 @@ impl Model for Growing {
     ghost invariant = { IsGrown };
 }
 
-/// Takes a change into both, or into neither.
+// Takes a change into both, or into neither.
 fn enter(
     alloc: Global,
     graph: &mut Graph,

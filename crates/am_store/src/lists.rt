@@ -53,7 +53,7 @@ pub fn all_lent<'a>(
     Ok(list)
 }
 
-/// These hashes, for look-ups.
+// These hashes, for look-ups.
 fn set_of(alloc: Global, hashes: &[Hash]) -> Result<BTreeSet<Hash>, AllocError>
     ensures { IfOk result (λ set. (h : AHash) → contains hash_cmp set h ≡ among hash_cmp hashes.now h) }
 {

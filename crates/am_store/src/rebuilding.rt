@@ -17,7 +17,7 @@ use am_rebuild::{RebuildFault, rebuild_whole};
 use am_types::{Change, Hash};
 use std::alloc::{AllocError, Global};
 
-/// Want of memory, which alone keeps the changes of a set from being rebuilt.
+// Want of memory, which alone keeps the changes of a set from being rebuilt.
 fn no_memory(fault: RebuildFault) -> AllocError
     requires { fault ≡ NoMemory }
 {
@@ -41,7 +41,7 @@ pub fn rebuilt(alloc: Global, contents: &[u8]) -> Result<Vec<(Hash, Change)>, Al
     }
 }
 
-/// As many empty places as there are entries.
+// As many empty places as there are entries.
 fn places_for(
     alloc: Global,
     entries: &[(Hash, Change)],
@@ -55,7 +55,7 @@ fn places_for(
     Ok(places)
 }
 
-/// Puts a change at its place in the graph.
+// Puts a change at its place in the graph.
 fn put(graph: &Graph, places: &mut Vec<Option<(Hash, Change)>>, hash: Hash, change: Change)
     requires { (C : List Member) × (graph.now ≡ nodes C) × (length places.old.items ≡ length C) × (holds C hash ≡ true) }
     ensures { (C : List Member) → graph.now ≡ nodes C → (p : ℕ) × (member C hash ≡ slice_get C p) × (places.new.items ≡ set places.old.items p (Some (hash, change))) }
@@ -66,7 +66,7 @@ fn put(graph: &Graph, places: &mut Vec<Option<(Hash, Change)>>, hash: Hash, chan
     }
 }
 
-/// Puts each entry at its place in the graph.
+// Puts each entry at its place in the graph.
 fn put_all(graph: &Graph, places: &mut Vec<Option<(Hash, Change)>>, entries: Vec<(Hash, Change)>)
     requires { AreRoomFor graph.now (vec_items entries) places.old.items }
     ensures { (C : List Member) → IsListed C graph.now (vec_items entries) → places.new.items ≡ map (placed (vec_items entries)) C }
@@ -76,7 +76,7 @@ fn put_all(graph: &Graph, places: &mut Vec<Option<(Hash, Change)>>, entries: Vec
     }
 }
 
-/// Appends what stands in a place.
+// Appends what stands in a place.
 fn take_place(
     entries: &mut Vec<(Hash, Change)>,
     place: Option<(Hash, Change)>,
@@ -92,7 +92,7 @@ fn take_place(
     }
 }
 
-/// What stands in the places that are taken.
+// What stands in the places that are taken.
 fn taken(
     alloc: Global,
     places: Vec<Option<(Hash, Change)>>,

@@ -56,12 +56,12 @@ impl Model for StagedStore {
     ghost view = { λ s. seen s.store s.ahead };
 }
 
-/// How many operations and changes there are.
+// How many operations and changes there are.
 fn size_of(counts: Counts) -> u64 {
     counts.changes.saturating_add(counts.operations)
 }
 
-/// How many operations and changes come.
+// How many operations and changes come.
 fn size_of_all(changes: &[(Hash, Change)]) -> u64 {
     let mut size = 0u64;
     for (_, change) in changes {
@@ -72,7 +72,7 @@ fn size_of_all(changes: &[(Hash, Change)]) -> u64 {
     size
 }
 
-/// Whether one of the changes is in the graph.
+// Whether one of the changes is in the graph.
 fn is_any_held(graph: &Graph, changes: &[(Hash, Change)]) -> bool {
     for (hash, _) in changes {
         if graph.holds(hash) {
@@ -82,7 +82,7 @@ fn is_any_held(graph: &Graph, changes: &[(Hash, Change)]) -> bool {
     false
 }
 
-/// Puts what the store keeps ahead of its document. Without memory nothing has changed.
+// Puts what the store keeps ahead of its document. Without memory nothing has changed.
 fn put_ahead(
     alloc: Global,
     store: &mut Store,
@@ -98,7 +98,7 @@ fn put_ahead(
     Ok(())
 }
 
-/// The store of all, whose document is made of what is staged; without memory the same again.
+// The store of all, whose document is made of what is staged; without memory the same again.
 fn merged(alloc: Global, ahead: Unsettled) -> Result<Store, Unsettled>
     ensures ok { IfOk result (λ store. store ≡ ahead) }
     ensures err { IfErr result (λ same. same ≡ ahead) }
@@ -109,7 +109,7 @@ fn merged(alloc: Global, ahead: Unsettled) -> Result<Store, Unsettled>
     }
 }
 
-/// The store of all. Where nothing is staged it takes no memory; without memory the same again.
+// The store of all. Where nothing is staged it takes no memory; without memory the same again.
 fn settled(alloc: Global, ahead: Unsettled) -> Result<Store, Unsettled>
     ensures ok { IfOk result (λ store. store ≡ ahead) }
     ensures err { IfErr result (λ same. same ≡ ahead) }
@@ -152,7 +152,7 @@ impl StagedStore {
         Ok(report)
     }
 
-    /// Delivers the changes of a file of this length.
+    // Delivers the changes of a file of this length.
     fn take_file(
         &mut self,
         alloc: Global,
@@ -172,9 +172,9 @@ impl StagedStore {
         }
     }
 
-    /// Whether these changes, of a file of this length, are better merged into the document at once: where there is nothing
-    /// yet, where one of them is held already and so compared, and where more might be staged than the document has, and some
-    /// besides.
+    // Whether these changes, of a file of this length, are better merged into the document at once: where there is nothing
+    // yet, where one of them is held already and so compared, and where more might be staged than the document has, and some
+    // besides.
     fn comes_at_once(&self, changes: &[(Hash, Change)], length: u64) -> bool {
         let held = size_of(self.counts());
         let staged = held.saturating_sub(self.written);
@@ -184,7 +184,7 @@ impl StagedStore {
             || is_any_held(self.graph(), changes)
     }
 
-    /// Delivers the changes of a file. What is staged is merged into the document, and then they are.
+    // Delivers the changes of a file. What is staged is merged into the document, and then they are.
     fn settle_and_merge(
         &mut self,
         alloc: Global,
@@ -200,7 +200,7 @@ impl StagedStore {
         self.merge(alloc, changes)
     }
 
-    /// Delivers the changes of a file to the settled store, which merges them into its document.
+    // Delivers the changes of a file to the settled store, which merges them into its document.
     fn merge(&mut self, alloc: Global, changes: &mut FileChanges<'_>) -> Result<Report, AllocError>
         requires settled { self.old.settled ≡ true }
         requires may_come { All MayCome (members_of changes.old) }
@@ -214,7 +214,7 @@ impl StagedStore {
         Ok(report)
     }
 
-    /// Notes how large the document of the settled store is. Nothing is staged.
+    // Notes how large the document of the settled store is. Nothing is staged.
     fn note_written(&mut self)
         ensures { self.new ≡ self.old }
     {
@@ -223,7 +223,7 @@ impl StagedStore {
         self.staged = 0;
     }
 
-    /// Makes room for changes to be staged. The same is kept as before; without memory the store is as before.
+    // Makes room for changes to be staged. The same is kept as before; without memory the store is as before.
     fn go_ahead(&mut self, alloc: Global) -> Result<(), AllocError>
         ensures kept { self.new.kept ≡ self.old.kept }
         ensures ahead { OnOk result (self.new.settled ≡ false) }
@@ -236,7 +236,7 @@ impl StagedStore {
         Ok(())
     }
 
-    /// Delivers the changes of a file of this length. Those that join are staged.
+    // Delivers the changes of a file of this length. Those that join are staged.
     fn stage(
         &mut self,
         alloc: Global,
@@ -253,7 +253,7 @@ impl StagedStore {
         self.stage_ahead(alloc, changes.take_entries(alloc), length)
     }
 
-    /// Delivers changes to a store that is ahead of its document.
+    // Delivers changes to a store that is ahead of its document.
     fn stage_ahead(
         &mut self,
         alloc: Global,
@@ -296,7 +296,7 @@ impl StagedStore {
         }
     }
 
-    /// Notes how large the document of the settled store is, where it was made anew.
+    // Notes how large the document of the settled store is, where it was made anew.
     fn note_merged(&mut self)
         ensures { self.new ≡ self.old }
     {

@@ -48,7 +48,7 @@ impl Model for Staging {
     ghost invariant = { IsStaging };
 }
 
-/// Copies of these changes.
+// Copies of these changes.
 fn copied(alloc: Global, changes: &[&Change]) -> Result<Vec<Change>, AllocError>
     ensures { IfOk result (λ list. list.items ≡ map (λ c. c.now) changes.now) }
 {
@@ -59,7 +59,7 @@ fn copied(alloc: Global, changes: &[&Change]) -> Result<Vec<Change>, AllocError>
     Ok(list)
 }
 
-/// Puts copies of these changes behind those that are staged. Without memory nothing has changed.
+// Puts copies of these changes behind those that are staged. Without memory nothing has changed.
 fn stage(alloc: Global, staged: &mut Vec<Change>, joined: &[&Change]) -> Result<(), AllocError>
     ensures ok { OnOk result (staged.new.items ≡ staged.old.items ++ map (λ c. c.now) joined.now) }
     ensures err { OnErr result (staged.new.items ≡ staged.old.items) }
@@ -68,7 +68,7 @@ fn stage(alloc: Global, staged: &mut Vec<Change>, joined: &[&Change]) -> Result<
     staged.append(&mut more)
 }
 
-/// These changes, lent.
+// These changes, lent.
 fn lent<'a>(alloc: Global, changes: &'a [Change]) -> Result<Vec<&'a Change>, AllocError>
     ensures { IfOk result (λ list. map (λ c. c.now) list.items ≡ changes.now) }
 {

@@ -123,7 +123,7 @@ impl Store {
         self.take(alloc, pairs)
     }
 
-    /// Whether there are no changes.
+    // Whether there are no changes.
     fn is_empty(&self) -> bool
         ensures { IsTrue result ↔ (self.now ≡ nothing) }
     {
@@ -151,8 +151,8 @@ impl Store {
         }
     }
 
-    /// Takes over changes that stand beside their own hashes, with what was built of them. There are no others, so nothing is
-    /// judged again; the contents of their document are made. Without memory the store is as before.
+    // Takes over changes that stand beside their own hashes, with what was built of them. There are no others, so nothing is
+    // judged again; the contents of their document are made. Without memory the store is as before.
     fn adopt(
         &mut self,
         alloc: Global,
@@ -170,7 +170,7 @@ impl Store {
         Ok(self.put_in(alloc, entries, built, contents))
     }
 
-    /// Puts in changes with what was built of them, and the contents of their document. Nothing was there.
+    // Puts in changes with what was built of them, and the contents of their document. Nothing was there.
     fn put_in(
         &mut self,
         alloc: Global,
@@ -201,7 +201,7 @@ impl Store {
         }
     }
 
-    /// The changes of the closed set, where one of these hashes is held, since then they are compared. Else nothing.
+    // The changes of the closed set, where one of these hashes is held, since then they are compared. Else nothing.
     fn held_for(
         &self,
         alloc: Global,
@@ -218,8 +218,8 @@ impl Store {
         Ok(None)
     }
 
-    /// Delivers changes that stand beside their own hashes. What the store has of the closed set is lent to the delivery, and
-    /// grows in place; without memory what was put in is cut off again.
+    // Delivers changes that stand beside their own hashes. What the store has of the closed set is lent to the delivery, and
+    // grows in place; without memory what was put in is cut off again.
     fn take(&mut self, alloc: Global, changes: Vec<(Hash, Change)>) -> Result<Report, AllocError>
         requires may_come { All MayCome (members_of (vec_items changes)) }
         requires own_hashes { HasOwnHashes (members_of (vec_items changes)) }
@@ -378,7 +378,7 @@ impl Store {
     }
 }
 
-/// The contents of the document of changes with what was built of them.
+// The contents of the document of changes with what was built of them.
 fn contents_for(
     alloc: Global,
     entries: &[(Hash, Change)],
@@ -391,7 +391,7 @@ fn contents_for(
     respelled(alloc, &built.doc, lent.as_slice(), &built.graph)
 }
 
-/// Exchanges the graph and the index for those that were built.
+// Exchanges the graph and the index for those that were built.
 fn exchange(graph: &mut Graph, index: &mut OpIndex, built: &mut Built<'_>)
     ensures graph { graph.new ≡ built.old.graph }
     ensures index { index.new ≡ built.old.index }

@@ -40,7 +40,7 @@ fn documents_are_taken_over(rt: HostRuntime) {
     }
 }
 
-/// So many changes join with the document, none waits, and none is rejected.
+// So many changes join with the document, none waits, and none is rejected.
 fn takes(rt: &impl Abort, alloc: Global, store: &mut Store, document: &[u8], count: u64) {
     let report = read(rt, alloc, store, document, false);
     assert_eq!(rt;

@@ -19,7 +19,7 @@ fn a_copy_is_alike(rt: HostRuntime) {
     go_on_alike(&rt, alloc, &mut store, &mut twin);
 }
 
-/// The contents, the three changes, and the one that waits.
+// The contents, the three changes, and the one that waits.
 fn have_one_list(rt: &impl Abort, alloc: Global, store: &Store, twin: &Store) {
     same_bytes(rt, store.contents(), twin.contents());
     let here = store.closed(alloc).expect(rt, "there is memory");

@@ -67,7 +67,7 @@ const BOTH_MENDED: &str = "\
     ndddddddnddddddddddddddddnnnnnddnnnnnnddddddddddddddddddhnhdddddddddddddddhhddddhhhhhhhdhhhhhhhd\
     ddddddddddddddddadddddddaddddddd";
 
-/// The letter for what a file was found to be: `a` where it was read, `?` where another chunk than the first is bad.
+// The letter for what a file was found to be: `a` where it was read, `?` where another chunk than the first is bad.
 fn letter_of(read: Result<Report, ReadFault>) -> u8 {
     match read {
         Ok(_) => b'a',
@@ -93,7 +93,7 @@ fn fault_letter(fault: LoadFault) -> u8 {
     }
 }
 
-/// An empty store finds the file to be this. Place and bit tell of a failure where it was.
+// An empty store finds the file to be this. Place and bit tell of a failure where it was.
 fn finds(rt: &impl Abort, alloc: Global, file: &[u8], want: u8, place: usize, bit: u8) {
     let mut store = empty(rt, alloc);
     let letter = letter_of(store.read_file(alloc, file, false));
@@ -115,7 +115,7 @@ fn a_turned_bit_is_found_where_the_checksum_is_right(rt: HostRuntime) {
     }
 }
 
-/// Of a document, or of the contents of one that is mended.
+// Of a document, or of the contents of one that is mended.
 fn finds_each_bit(rt: &impl Abort, alloc: Global, bytes: &[u8], is_mended: bool, letters: &str) {
     let mut letters = letters.bytes();
     // (behind the last letter a checksum tells, and of a mended document there is none)
@@ -151,7 +151,7 @@ fn each_front_part_is_truncated(rt: HostRuntime) {
     }
 }
 
-/// No bytes at all are a file of no chunks.
+// No bytes at all are a file of no chunks.
 fn finds_each_front_part(rt: &impl Abort, alloc: Global, document: &[u8]) {
     finds(rt, alloc, &[], b'a', 0, 0);
     for len in 1..document.len() {
@@ -189,7 +189,7 @@ fn runs_have_as_many_rows_as_there_may_be(rt: HostRuntime) {
     assert!(rt; matches!(DocRef::read(&more), Err(DocFault::BadDocument)));
 }
 
-/// The contents with so many rows.
+// The contents with so many rows.
 fn of_rows(rt: &impl Abort, alloc: Global, count: &[u8]) -> Vec<u8> {
     let mut contents = RUNS.to_vec(alloc).expect(rt, "there is memory");
     for &piece in BETWEEN {

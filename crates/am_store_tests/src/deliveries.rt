@@ -138,7 +138,7 @@ fn first_of<T: Copy>(items: &List<T>) -> Option<T> {
     }
 }
 
-/// How many changes are closed, how many ancestors the first one has with itself, and the head.
+// How many changes are closed, how many ancestors the first one has with itself, and the head.
 fn leaves_two(rt: &impl Abort, alloc: Global, store: &Store) {
     let closed = store.closed(alloc).expect(rt, "there is memory");
     assert!(rt; closed.len() == 2);
@@ -159,7 +159,7 @@ fn changes_are_delivered(rt: HostRuntime) {
     assert!(rt; report.added == 1);
 }
 
-/// The first change alone.
+// The first change alone.
 fn changes(rt: &impl Abort, alloc: Global) -> List<Change>
     ensures { All Fine result }
 {

@@ -102,7 +102,7 @@ fn goes_round(rt: &impl Abort, alloc: Global, document: &[u8]) {
     same_bytes(rt, save(rt, alloc, &other).as_slice(), document);
 }
 
-/// Delivers the chunks of the changes of a store to another one, the last one first.
+// Delivers the chunks of the changes of a store to another one, the last one first.
 fn deliver_last_first(rt: &impl Abort, alloc: Global, store: &Store, other: &mut Store) {
     let lines = history(rt, alloc, store);
     let lines = lines.as_slice();

@@ -57,7 +57,7 @@ fn taken(rt: &impl Abort, alloc: Global, staged: &mut StagedStore, file: &[u8]) 
         .expect(rt, "the file is read")
 }
 
-/// What both tell without a document is the same.
+// What both tell without a document is the same.
 fn tells(rt: &impl Abort, alloc: Global, staged: &StagedStore, store: &Store) {
     assert!(rt; staged.counts() == store.counts());
     let here = staged.graph().heads(alloc).expect(rt, "there is memory");
@@ -68,7 +68,7 @@ fn tells(rt: &impl Abort, alloc: Global, staged: &StagedStore, store: &Store) {
     assert!(rt; here == there);
 }
 
-/// The store, once it is settled.
+// The store, once it is settled.
 fn settled<'a>(rt: &impl Abort, alloc: Global, staged: &'a mut StagedStore) -> &'a Store {
     staged.settle(alloc).expect(rt, "there is memory");
     staged.store()
