@@ -10,9 +10,9 @@ ghost use Rattle.am_runs.specs.Positions.{place_of};
 use crate::fault::BadRun;
 use crate::item::{Item, TextItem};
 use crate::literal::text_behind;
-use crate::place::{Kind, Position, opened, stepped};
+use crate::place::{Kind, Position, run_start, stepped};
 use crate::run::run_at;
-use crate::skipping::skipped;
+use crate::skipping::place_behind;
 use crate::taking::taken;
 use std::marker::{Model, PhantomData};
 
@@ -106,7 +106,7 @@ impl<'a, K: Item> RunCursor<'a, K> {
     pub fn skip(&mut self, n: u64)
         ensures { self.new ≡ drop n self.old }
     {
-        let (at, left) = skipped::<K>(self.at, self.left, n.min(self.left));
+        let (at, left) = place_behind::<K>(self.at, self.left, n.min(self.left));
         self.at = at;
         self.left = left;
     }
@@ -161,7 +161,7 @@ impl<'a, K: Item> RunCursor<'a, K> {
         if self.left == 0 {
             return;
         }
-        match opened::<K>(self.at.rest) {
+        match run_start::<K>(self.at.rest) {
             None => {}
             Some(at) => {
                 if at.count == 0 {

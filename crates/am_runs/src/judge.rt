@@ -8,7 +8,7 @@ ghost use Rattle.am_runs.specs.Positions.{sight_in};
 
 use crate::item::Item;
 use crate::pending::is_same;
-use crate::place::{Kind, opened};
+use crate::place::{Kind, run_start};
 use am_types::same_bytes;
 
 // A run that begins the bytes.
@@ -115,7 +115,7 @@ fn tight_run<'a, K: Item>(bytes: &'a [u8]) -> Option<Seen<'a>>
     ensures { option_map sight_in result
         ≡ tight_sight K.end_of bytes.now }
 {
-    match opened::<K>(bytes) {
+    match run_start::<K>(bytes) {
         None => None,
         Some(at) => match at.kind {
             Kind::Nulls => Some(repeat_seen(at.count, None, at.rest)),

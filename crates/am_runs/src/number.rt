@@ -119,7 +119,7 @@ fn number_run<'a, K: Number>(bytes: &'a [u8]) -> Option<(Position<'a>, Option<K:
 
 /// Opens the run behind, and takes its first entry.
 #[inline(always)]
-pub fn opened<'a, K: Number>(
+pub fn first_of_run<'a, K: Number>(
     at: &mut Counters<'a>,
     value: &mut Option<K::Value>,
 ) -> Option<Option<K::Value>>

@@ -12,7 +12,7 @@ use crate::cursor::RunCursor;
 use crate::fault::BadRun;
 use crate::item::NumberItem;
 use crate::leb::{Number, Signed, Unsigned};
-use crate::number::{literal_number, number_of, opened};
+use crate::number::{first_of_run, literal_number, number_of};
 use std::marker::Model;
 
 /// The numbers of a column, one after another. A contract sees those that are left, a null as None. `K` is `Unsigned`
@@ -162,7 +162,7 @@ impl<'a, K: Number> NumberCursor<'a, K> {
         if self.at.left == 0 {
             return None;
         }
-        opened::<K>(&mut self.at, &mut self.value)
+        first_of_run::<K>(&mut self.at, &mut self.value)
     }
 }
 

@@ -57,7 +57,7 @@ fn open_repeat_run<'a, K: Item>(count: u64, bytes: &'a [u8]) -> Option<Position<
 }
 
 #[inline(always)]
-pub fn opened<'a, K: Item>(bytes: &'a [u8]) -> Option<Position<'a>>
+pub fn run_start<'a, K: Item>(bytes: &'a [u8]) -> Option<Position<'a>>
     ensures { option_map place_of result ≡ open_run K.end_of bytes.now }
 {
     match read_i(bytes) {
@@ -113,7 +113,7 @@ pub fn stepped<'a, K: Item>(at: Position<'a>) -> Option<(Option<&'a [u8]>, Posit
     if at.count > 0 {
         return entry::<K>(at);
     }
-    match opened::<K>(at.rest) {
+    match run_start::<K>(at.rest) {
         None => None,
         Some(at) => { if at.count > 0 { entry::<K>(at) } else { None } }
     }

@@ -5,7 +5,7 @@ ghost use Rattle.am_runs.specs.Runs.{BeginsRun};
 ghost use Rattle.am_runs.specs.Walking.{behind_items, and_behind};
 
 use crate::item::Item;
-use crate::place::{Kind, opened};
+use crate::place::{Kind, run_start};
 
 #[inline(always)]
 fn behind_one<'a, K: Item>(bytes: &'a [u8]) -> Option<&'a [u8]>
@@ -48,7 +48,7 @@ pub fn run_at<'a, K: Item>(bytes: &'a [u8], most: u64) -> Option<(u64, &'a [u8])
     ensures found { IfSome result (λ x. (x.0 ≤ most) × BeginsRun K.end_of bytes.now x.0 x.1.now) }
     ensures none { IfNone result ((count : ℕ) (rest : List ℕ) → BeginsRun K.end_of bytes.now count rest → most < count) }
 {
-    match opened::<K>(bytes) {
+    match run_start::<K>(bytes) {
         None => None,
         Some(at) => {
             if at.count > most {

@@ -8,7 +8,7 @@ use crate::place::Position;
 use crate::taking::taken;
 
 /// The place behind the next n entries, and how many entries are left from there.
-pub fn skipped<'a, K: Item>(at: Position<'a>, left: u64, n: u64) -> (Position<'a>, u64)
+pub fn place_behind<'a, K: Item>(at: Position<'a>, left: u64, n: u64) -> (Position<'a>, u64)
     requires within { n ≤ left }
     requires left { HasEntries K.end_of left (place_of at) }
     ensures holds { HasEntries K.end_of result.1 (place_of result.0) }

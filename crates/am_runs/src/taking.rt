@@ -5,7 +5,7 @@ ghost use Rattle.am_runs.specs.Walking.{step, Takes};
 ghost use Rattle.am_runs.specs.Positions.{place_of};
 
 use crate::item::Item;
-use crate::place::{Kind, Position, opened, stepped};
+use crate::place::{Kind, Position, run_start, stepped};
 
 // The same within a run.
 #[inline(always)]
@@ -65,7 +65,7 @@ pub fn taken<'a, K: Item>(
     if at.count > 0 {
         return taken_within::<K>(at, most);
     }
-    match opened::<K>(at.rest) {
+    match run_start::<K>(at.rest) {
         None => None,
         Some(within) => {
             if within.count > 0 {

@@ -2,7 +2,7 @@ use Rattle.std.proofs.Common.{◌≡◌, ◌-◌, Some, ◌∷◌, map, refl, sy
 use Rattle.std.specs.Option.{option_map}
 use Rattle.am_runs.specs.Counters.{entries_from, counted}
 use Rattle.am_runs.proofs.Counted.{opened-count, opened_repeat, opened_nulls, opened_literal, run_there, counted_none}
-use Rattle.am_runs.proofs.number.opened.Goals as goal
+use Rattle.am_runs.proofs.number.first_of_run.Goals as goal
 
 pub overflow_sub-left : goal.overflow_sub-left
 overflow_sub-left g c = opened-count g.K.Number.end_of _ _ _ c.requires.some c.in-Some.ensures.place c.requires.held

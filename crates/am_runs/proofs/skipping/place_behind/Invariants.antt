@@ -1,7 +1,7 @@
 use Rattle.std.proofs.Common.{◌≡◌, ◌≤◌, drop}
 use Rattle.am_runs.specs.Walking.{entries, HasEntries}
 use Rattle.am_runs.specs.Positions.{place_of}
-use Rattle.am_runs.proofs.skipping.skipped.Given as goal
+use Rattle.am_runs.proofs.skipping.place_behind.Given as goal
 
 abbrev pub invariant-loop-n : goal.invariant-loop-n
 invariant-loop-n g l =

@@ -2,7 +2,7 @@ use mir.Val.{to_z, of_z}
 use Rattle.std.proofs.Common.{◌≡◌, pos, sym, ap, ◌∙◌, w64}
 use Rattle.std.proofs.lemmas.Int.{to_z-of_z}
 use Rattle.am_runs.proofs.RunStarts.{behind_number, read_start, nulls_start, repeat_start, literal_start}
-use Rattle.am_runs.proofs.place.opened.Goals as goal
+use Rattle.am_runs.proofs.place.run_start.Goals as goal
 
 pub returns-then-n-eq0 : goal.returns-then-n-eq0
 returns-then-n-eq0 g c =
