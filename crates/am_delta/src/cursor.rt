@@ -5,7 +5,7 @@ ghost use Rattle.am_delta.specs.Deltas.{JoinsDeltas, AllBetween, AllFit, sums_fr
 use crate::arithmetic::sum_of;
 use crate::between::stays_between;
 use crate::fault::BadDelta;
-use crate::skipping::{skipped, value_after};
+use crate::skipping::{sum_behind, value_after};
 use am_runs::SignedCursor;
 use std::marker::Model;
 
@@ -84,7 +84,7 @@ impl<'a> DeltaCursor<'a> {
     pub fn skip(&mut self, n: u64)
         ensures { self.new ≡ drop n self.old }
     {
-        self.value = skipped(&mut self.differences, self.value, n);
+        self.value = sum_behind(&mut self.differences, self.value, n);
     }
 
     // The differences that are left, and the value that they go on from.

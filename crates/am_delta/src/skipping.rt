@@ -24,7 +24,7 @@ pub fn value_after(value: i64, difference: Option<i64>, k: u64) -> i64
 }
 
 /// Leaves out the next n differences, and gives the sum behind them.
-pub fn skipped(differences: &mut SignedCursor<'_>, value: i64, n: u64) -> i64
+pub fn sum_behind(differences: &mut SignedCursor<'_>, value: i64, n: u64) -> i64
     requires { AllFit (sums_from value differences.old) }
     ensures fit { AllFit (sums_from result differences.new) }
     ensures drops { sums_from result differences.new ≡ drop n (sums_from value differences.old) }

@@ -6,7 +6,7 @@ ghost use Rattle.am_leb.specs.Leb.{leb};
 ghost use Rattle.am_runs.specs.Apart.{Took};
 
 use crate::cursor::DeltaCursor;
-use crate::skipping::{skipped, value_after};
+use crate::skipping::{sum_behind, value_after};
 use am_leb::{push_i, signed_byte};
 use am_runs::{RunWriter, SignedItem};
 use am_types::Bytes;
@@ -182,7 +182,7 @@ impl DeltaWriter {
         }
         self.failed = true;
         let k = self.differences.push_next(&differences, most)?;
-        let last = skipped(&mut differences, value, k);
+        let last = sum_behind(&mut differences, value, k);
         *from = DeltaCursor::from_parts(differences, last);
         self.last = last;
         self.failed = false;

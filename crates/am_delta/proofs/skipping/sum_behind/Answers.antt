@@ -3,7 +3,7 @@ use Rattle.std.proofs.lemmas.Int.{to_z-of_z}
 use Rattle.am_delta.specs.Deltas.{AllFit, sums_from}
 use Rattle.am_delta.proofs.Sums.{fits_after, skips, passed, alike_taken}
 use Rattle.am_delta.proofs.Copying.{last_skips}
-use Rattle.am_delta.proofs.skipping.skipped.Goals as goal
+use Rattle.am_delta.proofs.skipping.sum_behind.Goals as goal
 
 pub value_after-value-requires : goal.value_after-value-requires
 value_after-value-requires c =

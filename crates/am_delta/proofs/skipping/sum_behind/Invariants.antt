@@ -1,6 +1,6 @@
 use Rattle.std.proofs.Common.{◌≡◌, take, drop}
 use Rattle.am_delta.specs.Deltas.{AllFit, sums_from, last_from}
-use Rattle.am_delta.proofs.skipping.skipped.Given as goal
+use Rattle.am_delta.proofs.skipping.sum_behind.Given as goal
 
 abbrev pub invariant-loop-n : goal.invariant-loop-n
 invariant-loop-n l =
