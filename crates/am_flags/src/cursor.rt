@@ -4,7 +4,7 @@ ghost use Rattle.am_flags.specs.Flags.{JoinsFlags};
 
 use crate::count::{number_at, total_of};
 use crate::fault::BadFlags;
-use crate::place::{Position, opened, skipped};
+use crate::place::{Position, block_at, place_behind};
 use std::marker::Model;
 
 /// The flags of a column, one after another.
@@ -111,7 +111,7 @@ impl<'a> FlagCursor<'a> {
     pub fn skip(&mut self, n: u64)
         ensures { self.new ≡ drop n self.old }
     {
-        let at = skipped(self.at, n);
+        let at = place_behind(self.at, n);
         self.at = at;
         self.left -= n.min(self.left);
     }
@@ -122,7 +122,7 @@ impl<'a> FlagCursor<'a> {
         ensures end { IfNone result ((self.old ≡ []) × (self.new ≡ [])) }
         ensures next { IfSome result (λ r. (1 ≤ r.1) × (r.1 ≤ most) × (self.old ≡ replicate r.1 r.0 ++ self.new)) }
     {
-        let at = opened(self.at);
+        let at = block_at(self.at);
         if at.count == 0 {
             return None;
         }
@@ -141,7 +141,7 @@ impl<'a> FlagCursor<'a> {
         ensures end { IfNone result ((self.old ≡ []) × (self.new ≡ [])) }
         ensures next { IfSome result (λ flag. self.old ≡ flag ∷ self.new) }
     {
-        let at = opened(self.at);
+        let at = block_at(self.at);
         if at.count == 0 {
             return None;
         }

@@ -13,7 +13,7 @@ pub struct Position<'a> {
 }
 
 /// The next block where none is left of this one.
-pub fn opened<'a>(at: Position<'a>) -> Position<'a>
+pub fn block_at<'a>(at: Position<'a>) -> Position<'a>
     requires { SpellCounts at.rest.now }
     ensures counts { SpellCounts result.rest.now }
     ensures same { flags_at result.flag result.count result.rest.now ≡ flags_at at.entry.flag at.entry.count at.entry.rest.now }
@@ -32,7 +32,7 @@ pub fn opened<'a>(at: Position<'a>) -> Position<'a>
     }
 }
 
-pub fn skipped<'a>(at: Position<'a>, n: u64) -> Position<'a>
+pub fn place_behind<'a>(at: Position<'a>, n: u64) -> Position<'a>
     requires { SpellCounts at.rest.now }
     ensures counts { SpellCounts result.rest.now }
     ensures drops { flags_at result.flag result.count result.rest.now ≡ drop n (flags_at at.entry.flag at.entry.count at.entry.rest.now) }
@@ -40,7 +40,7 @@ pub fn skipped<'a>(at: Position<'a>, n: u64) -> Position<'a>
     let mut at = at;
     let mut n = n;
     while n > 0 {
-        let block = opened(at);
+        let block = block_at(at);
         if block.count == 0 {
             return block;
         }

@@ -2,7 +2,7 @@ use Rattle.std.proofs.Common.{arith, sym, ap, ◌∙◌, ◌≡◌}
 use Rattle.std.proofs.lemmas.Grind.{common_steps}
 use Rattle.am_flags.specs.Flags.{flags_at}
 use Rattle.am_flags.proofs.Counts.{open_next, ends_here}
-use Rattle.am_flags.proofs.place.opened.Goals as goal
+use Rattle.am_flags.proofs.place.block_at.Goals as goal
 
 pub returns-in-None-clause-some : goal.returns-in-None-clause-some
 returns-in-None-clause-some c = λ e. ap (λ n. flags_at c.args.at.flag n c.args.at.rest.now) e ∙ ends_here _ _ c.requires c.in-None.ensures.none
