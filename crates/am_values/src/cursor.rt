@@ -7,7 +7,7 @@ ghost use Rattle.am_values.specs.declared.nulls.Nulls.TheVariants.{AreRefused};
 ghost use Rattle.am_values.specs.Columns.{JoinsValues, AllGood, NoneNull, given, joined, spellings};
 ghost use Rattle.am_values.specs.Letters.{letter, AreAscii};
 
-use crate::cutting::{are_cut, cut, skipped};
+use crate::cutting::{are_cut, cut, raw_behind};
 use crate::fault::BadValue;
 use crate::letters::letters_ahead;
 use crate::nulls::Nulls;
@@ -104,7 +104,7 @@ impl<'a> ValueCursor<'a> {
     pub fn skip(&mut self, n: u64)
         ensures { self.new ≡ drop n self.old }
     {
-        self.raw = skipped(&mut self.numbers, self.raw, n);
+        self.raw = raw_behind(&mut self.numbers, self.raw, n);
     }
 
     /// The next values, at most so many, as far as each is known to be a letter, which is a text of one ASCII byte: their

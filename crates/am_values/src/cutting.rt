@@ -135,7 +135,7 @@ pub fn past<'a>(number: Option<u64>, count: u64, raw: &'a [u8]) -> &'a [u8]
 
 // Leaves out the next numbers, and gives the raw bytes behind their values. It takes a step for each run, or for each
 // item where they are listed one by one.
-pub fn skipped<'a>(numbers: &mut UnsignedCursor<'_>, raw: &'a [u8], n: u64) -> &'a [u8]
+pub fn raw_behind<'a>(numbers: &mut UnsignedCursor<'_>, raw: &'a [u8], n: u64) -> &'a [u8]
     requires { AreCut numbers.old raw.now }
     ensures cut { AreCut numbers.new result.now }
     ensures drops { values_from numbers.new result.now ≡ drop n (values_from numbers.old raw.now) }

@@ -2,7 +2,7 @@ use Rattle.std.proofs.Common.{arith, sym, ap, ◌∙◌, ◌≤◌, ◌-◌, sub
 use Rattle.std.proofs.lemmas.Grind.{common_steps}
 use Rattle.am_values.specs.Cutting.{AreCut, values_from}
 use Rattle.am_values.proofs.Cuts.{past_many, skips}
-use Rattle.am_values.proofs.cutting.skipped.Goals as goal
+use Rattle.am_values.proofs.cutting.raw_behind.Goals as goal
 
 pub past-rest-requires : goal.past-rest-requires
 past-rest-requires c =
