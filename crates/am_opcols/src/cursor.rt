@@ -48,7 +48,7 @@ impl<'a> Model for OpCursor<'a> {
 
 // The cursor over columns whose places name these actors. In a change all metadata of values and all lengths of groups
 // stand.
-fn opened<'a>(columns: &OpColumns<'a>, actors: &Actors<'a>) -> Result<OpCursor<'a>, BadFields>
+fn cursor_over<'a>(columns: &OpColumns<'a>, actors: &Actors<'a>) -> Result<OpCursor<'a>, BadFields>
     ensures spelled { IfOk result (SpellsOps actors.now columns.now) }
     ensures err { OnErr result ((ops : List Op) → SpellsOps actors.now columns.now ops → ⊥) }
 {
@@ -173,7 +173,7 @@ impl<'a> OpColumns<'a> {
         ensures err { OnErr result ((ops : List Op) → SpellsOps (author.now ∷ others.entry) self.now ops → ⊥) }
     {
         let actors = Actors::of_change(author, others);
-        match opened(self, &actors) {
+        match cursor_over(self, &actors) {
             Ok(cursor) => Ok(cursor),
             Err(_) => Err(BadOps),
         }
