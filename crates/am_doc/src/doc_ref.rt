@@ -91,7 +91,7 @@ fn are_short(actors: &ActorList<'_>) -> bool
 }
 
 // The document with this front, and this behind it; None where that is no document's.
-fn opened<'a>(front: &FrontRef<'a>, rest: &'a [u8]) -> Option<DocRef<'a>>
+fn document_with<'a>(front: &FrontRef<'a>, rest: &'a [u8]) -> Option<DocRef<'a>>
     requires { IsFront (front_of front.now) }
     ensures spelled { IfSome result (SpellsBehind (front_of front.now) rest.now) }
     ensures none { IfNone result ((t : ATable) → (AreCompressed front.now.metas → ⊥) → (AreCompressed front.now.rows → ⊥) → SpellsBehind (front_of front.now) rest.now t → ⊥) }
@@ -161,7 +161,7 @@ impl<'a> DocRef<'a> {
         if front.rows.compressed() {
             return Err(DocFault::CompressedColumn);
         }
-        match opened(&front, rest) {
+        match document_with(&front, rest) {
             Some(doc) => Ok(doc),
             None => Err(DocFault::BadDocument),
         }

@@ -5,7 +5,7 @@ use Rattle.am_doccols.proofs.OneReading.{metas-same}
 use Rattle.am_doc.specs.Fronts.{front_bytes}
 use Rattle.am_doc.specs.Reading.{front_of}
 use Rattle.am_doc.specs.Spelling.{IsSuffix}
-use Rattle.am_doc.proofs.doc_ref.opened.Goals as goal
+use Rattle.am_doc.proofs.doc_ref.document_with.Goals as goal
 
 pub returns-in_default-clause-none : goal.returns-in_default-clause-none
 returns-in_default-clause-none c = λ t plain plain_rows s.
