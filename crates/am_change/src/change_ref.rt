@@ -7,7 +7,7 @@ use crate::fault::ChangeFault;
 use crate::fine_parts::are_fine;
 use crate::front::FrontRef;
 use crate::hash_list::HashList;
-use crate::parse::{is_canonical, length_known, opened};
+use crate::parse::{behind_front, is_canonical, length_known};
 use am_opcols::OpCursor;
 use am_types::{Change, SharedActors};
 use std::alloc::{AllocError, Global};
@@ -55,7 +55,7 @@ impl<'a> ChangeRef<'a> {
         if front.listed.compressed() {
             return Err(ChangeFault::CompressedColumn);
         }
-        let Some(behind) = opened(&front, rest) else {
+        let Some(behind) = behind_front(&front, rest) else {
             return Err(ChangeFault::BadChange);
         };
         if !are_fine(&front, behind.message, &behind.ops, behind.extra) {

@@ -53,7 +53,7 @@ pub struct Behind<'a> {
 }
 
 // What stands behind the front of a change; None where there is no such.
-pub fn opened<'a>(front: &FrontRef<'a>, rest: &'a [u8]) -> Option<Behind<'a>>
+pub fn behind_front<'a>(front: &FrontRef<'a>, rest: &'a [u8]) -> Option<Behind<'a>>
     ensures spelled { IfSome result (λ r. SpellsOps (front.now.actor.now ∷ front.now.others) r.columns r.ops) }
     ensures ascend { IfSome result (λ r. Ascend (listing r.columns)) }
     ensures are_known { IfSome result (λ r. AreKnown op_specifications (listing r.columns)) }
@@ -137,7 +137,7 @@ fn parsed(alloc: Global, actors: &mut SharedActors, bytes: &[u8]) -> Result<Chan
     if front.listed.compressed() {
         return Err(ChangeFault::CompressedColumn);
     }
-    let Some(mut behind) = opened(&front, rest) else {
+    let Some(mut behind) = behind_front(&front, rest) else {
         return Err(ChangeFault::BadChange);
     };
     let count = behind.ops.left();

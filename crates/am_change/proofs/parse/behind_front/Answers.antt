@@ -7,7 +7,7 @@ use Rattle.am_opcols.specs.Columns.{op_specifications, SpellsOps}
 use Rattle.am_opcols.specs.Writing.{written_columns}
 use Rattle.am_change.specs.Building.{front_of}
 use Rattle.am_change.proofs.Parsing.{fits_behind, parts_behind, judged_as, ops_as, one_ops}
-use Rattle.am_change.proofs.parse.opened.Goals as goal
+use Rattle.am_change.proofs.parse.behind_front.Goals as goal
 
 pub returns-then-total-rest-clause-only : goal.returns-then-total-rest-clause-only
 returns-then-total-rest-clause-only c = λ d fine s e r.
