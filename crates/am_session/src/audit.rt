@@ -8,7 +8,7 @@ ghost use Rattle.am_json.specs.Shown.{json_data};
 ghost use Rattle.am_json.specs.declared.Form.TheVariants.{Winners};
 ghost use Rattle.am_session.specs.Reading.{printed, reading_at, reading};
 
-use crate::reading::finished;
+use crate::reading::reply_of;
 use crate::replies::unknown;
 use am_delivery::part_is_valid;
 use am_graph::ClockFault;
@@ -29,7 +29,7 @@ fn print(alloc: Global, entries: &[Entry]) -> Result<Bytes, AllocError>
     for entry in entries {
         maker.push(entry.lend())?;
     }
-    finished(alloc, maker)
+    reply_of(alloc, maker)
 }
 
 // What is visible after these changes.

@@ -1,4 +1,4 @@
-//! Printing what is visible, read off the rows of the store's document.
+//! The reply with what is visible, read off the rows of the store's document.
 ghost use Rattle.std.specs.Prelude.{◌≡◌, ◌++◌, ◌∷◌, [], All, IfErr, IfOk, OnOk, Some, find, not, true, false};
 ghost use Rattle.am_types.specs.Ancestors.{ancestors};
 ghost use Rattle.am_types.specs.Members.{heads, holds};
@@ -21,7 +21,7 @@ use am_view::Shown;
 use std::alloc::{AllocError, Global};
 
 // A text on a line of its own.
-fn ended(text: Bytes) -> Result<Bytes, AllocError>
+fn line_with(text: Bytes) -> Result<Bytes, AllocError>
     ensures { IfOk result (λ line. line ≡ text ++ newline ∷ []) }
 {
     let mut line = text;
@@ -31,11 +31,11 @@ fn ended(text: Bytes) -> Result<Bytes, AllocError>
 
 /// The reply with the text of the entries that were pushed. One that nests too deep is refused.
 #[tactic(auto, using(crate::proofs::PrintedText::fits_text, crate::proofs::PrintedText::deep_text))]
-pub fn finished(alloc: Global, maker: LentJsonMaker<'_>) -> Result<Bytes, AllocError>
+pub fn reply_of(alloc: Global, maker: LentJsonMaker<'_>) -> Result<Bytes, AllocError>
     ensures { IfOk result (λ reply. reply ≡ printed (json_data maker.entry.form maker.entry.entries)) }
 {
     match maker.finish(alloc) {
-        Ok(text) => ended(text),
+        Ok(text) => line_with(text),
         Err(JsonFault::TooDeep) => refusal(alloc, "deep"),
         Err(JsonFault::NoMemory) => Err(AllocError),
     }
@@ -52,8 +52,8 @@ fn maker_for<'a>(alloc: Global, form: Form, shown: &Shown<'a>) -> LentJsonMaker<
     }
 }
 
-// All entries that are handed out.
-fn pushed<'a>(
+// A maker with all entries that are handed out.
+fn filled_maker<'a>(
     alloc: Global,
     form: Form,
     shown: &mut Shown<'a>,
@@ -72,8 +72,8 @@ fn print(alloc: Global, form: Form, shown: Shown<'_>) -> Result<Bytes, AllocErro
     ensures { IfOk result (λ reply. reply ≡ printed (json_data form shown.entry)) }
 {
     let mut boxed = Box::new(alloc, shown)?;
-    let maker = pushed(alloc, form, &mut boxed)?;
-    finished(alloc, maker)
+    let maker = filled_maker(alloc, form, &mut boxed)?;
+    reply_of(alloc, maker)
 }
 
 // The clock of the ancestors of these hashes.
