@@ -1,18 +1,13 @@
 -- What is found of ids, and of what is read as operations, one after another.
 --     at_pair, pair_next       two neighbours, where all ascend; where those up to the first do and the two do
 --     all_read, all_given      what is true of each that is read, and of what it is read as
---     count_next               the predecessors of one more
-use Rattle.std.proofs.Common.{◌≡◌, ℕ, ◌+◌, ◌-◌, ◌<◌, List, [], ◌∷◌, length, map, take, get_or, sym, ap, ◌∙◌, arith, Less}
+use Rattle.std.proofs.Common.{◌≡◌, ℕ, ◌+◌, ◌-◌, ◌<◌, List, [], ◌∷◌, length, map, get_or, sym, ap, ◌∙◌, arith, Less}
 use Rattle.std.specs.Prelude.{All}
 use Rattle.std.specs.List.{AllAdjacentBelow}
-use Rattle.std.proofs.lemmas.List.{length-map, get_or-map}
 use Rattle.std.proofs.lemmas.List.Elements.{All-nil, All-cons, All-head, All-tail}
 use Rattle.std.proofs.lemmas.List.Sorted.{all_adjacent_more}
-use Rattle.std.proofs.lemmas.List.Sums.{sum_by_more}
 use Rattle.am_types.specs.declared.OpId.{OpId}
-use Rattle.am_types.specs.declared.Op.{Op}
 use Rattle.am_types.specs.Order.{id_cmp, Ascends}
-use Rattle.am_types.specs.Fine.{pred_count}
 
 pub at_pair : (ids : List OpId) (i : ℕ) (a b : OpId) → 0 < i → i < length ids → ((d : OpId) → a ≡ get_or ids (i - 1) d) → ((d : OpId) → b ≡ get_or ids i d) → Ascends id_cmp ids → id_cmp a b ≡ Less
 at_pair ids i a b some within first second up =
@@ -31,9 +26,3 @@ all_read P f (x ∷ xs) all = All-cons P (f x) (map f xs) (All-head (λ x. P (f 
 pub all_given : {X Y : Type 0} (P : Y → Type 0) (f : X → Y) (xs : List X) → All P (map f xs) → All (λ x. P (f x)) xs
 all_given P f [] all = All-nil (λ x. P (f x))
 all_given P f (x ∷ xs) all = All-cons (λ x. P (f x)) x xs (All-head P (f x) (map f xs) all) (all_given P f xs (All-tail P (f x) (map f xs) all))
-
-pub count_next : {X : Type 0} (o : X → Op) (xs : List X) (i : ℕ) (x : X) → i < length xs → x ≡ get_or xs i x
-    → pred_count (take (i + 1) (map o xs)) ≡ pred_count (take i (map o xs)) + length (o x).preds
-count_next o xs i x n is =
-    sum_by_more (λ (p : Op). length p.preds) (map o xs) i (o x) (omega (arith, length-map xs o))
-    ∙ ap (λ (p : Op). pred_count (take i (map o xs)) + length p.preds) (get_or-map o xs i x (o x) n ∙ ap o (sym is))

@@ -5,11 +5,11 @@ use Rattle.std.proofs.lemmas.List.{map-append, length-map, length-append, take_a
 use Rattle.std.proofs.lemmas.List.Sums.{sum_by-cons}
 use Rattle.am_types.specs.declared.OpId.{OpId}
 use Rattle.am_types.specs.declared.Change.{Change}
+use Rattle.am_types.specs.declared.Totals.{Totals}
 use Rattle.am_types.specs.Operations.{Operation, operations, all_operations}
-use Rattle.am_fits.specs.declared.totals.Totals.{Totals}
+use Rattle.am_types.specs.Totals.{totals_of}
 use Rattle.am_fits.specs.Facts.{Fact, fact_of, facts, facts_of}
 use Rattle.am_fits.specs.Indexes.{Indexed, index_of}
-use Rattle.am_fits.specs.Sums.{totals_of}
 use Rattle.am_fits.proofs.OwnOperations.{length-operations}
 
 operation_count : (cs : List Change) → length (facts_of cs) ≡ (totals_of cs).operations

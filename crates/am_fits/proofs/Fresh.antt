@@ -6,13 +6,13 @@ use Rattle.am_types.specs.declared.Change.{Change}
 use Rattle.am_types.specs.Fine.{Fine}
 use Rattle.am_types.specs.Operations.{Operation, operations, all_operations, DistinctIds, max}
 use Rattle.am_types.specs.Members.{Member}
+use Rattle.am_types.specs.Totals.{totals_of, AreWithinLimits}
 use Rattle.am_types.specs.Deliver.{MayCome}
 use Rattle.am_laws.proofs.DistinctOperations.{distinct_ids_valid}
 use Rattle.am_types.proofs.Orders.{same_id-true}
 use Rattle.am_laws.proofs.Rules.{keeps_rules}
 use Rattle.am_fits.specs.Facts.{Fact, facts, fact_with}
 use Rattle.am_fits.specs.Indexes.{Indexed, MayAdmit}
-use Rattle.am_fits.specs.Sums.{totals_of, AreWithinLimits}
 use Rattle.am_fits.proofs.KnownBy.{fact_found}
 use Rattle.am_fits.proofs.SeqLaws.{mapped_from}
 use Rattle.am_fits.proofs.Sums.{set_within, totals_push}

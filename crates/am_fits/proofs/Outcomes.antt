@@ -11,6 +11,7 @@ use Rattle.std.proofs.lemmas.List.Elements.{All-contains}
 use Rattle.std.proofs.lemmas.List.Sums.{AllPass-from_list_all}
 use Rattle.am_graph.proofs.Held.{held_of_set}
 use Rattle.am_types.specs.Ancestors.{ancestors}
+use Rattle.am_types.specs.Totals.{totals_with, limit_of}
 use Rattle.am_types.specs.ValidSets.{Valid}
 use Rattle.am_types.specs.Verdicts.{verdict, seq_clash, seq_gap, start_low, bad_reference, full}
 use Rattle.am_laws.proofs.Listed.{Facts}
@@ -23,7 +24,6 @@ use Rattle.am_types.specs.declared.OpId.{OpId}
 use Rattle.am_fits.specs.Facts.{Fact}
 use Rattle.am_fits.specs.Indexes.{Indexed, AreOf}
 use Rattle.am_fits.specs.Past.{Past}
-use Rattle.am_fits.specs.Sums.{totals_with, limit_of}
 use Rattle.am_fits.specs.Told.{IsGoodAt, IsFirstBad}
 use Rattle.am_fits.proofs.SeqLaws.{find_passes, gap_told, low_told, clash_is, gap_is, low_is}
 use Rattle.am_fits.proofs.Sums.{limit_is}

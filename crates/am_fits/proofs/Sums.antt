@@ -1,5 +1,5 @@
 -- The totals of a set, and its limits.
-use Rattle.std.proofs.Common.{ℕ, ◌≡◌, ◌+◌, ◌≤◌, ◌^◌, List, [], ◌∷◌, ◌++◌, length, sum_by, nat_lt, Option, Some, None, refl, sym, ap, ◌∙◌, inl, inr, arith}
+use Rattle.std.proofs.Common.{ℕ, ◌≡◌, ◌+◌, ◌≤◌, List, [], ◌∷◌, ◌++◌, length, sum_by, nat_lt, Option, Some, None, refl, sym, ap, ◌∙◌, inl, inr, arith}
 use Rattle.std.specs.Bool.{then_some}
 use Rattle.std.specs.Option.{option_or}
 use Rattle.std.proofs.lemmas.Bool.{cases_lt, lt-ltb}
@@ -7,13 +7,14 @@ use Rattle.std.proofs.lemmas.List.{length_push}
 use Rattle.std.proofs.lemmas.List.Sums.{sum_by-cons, sum_by_push}
 use Rattle.am_types.specs.declared.Change.{Change}
 use Rattle.am_types.specs.declared.Limit.{Limit}
+use Rattle.am_types.specs.declared.Totals.{Totals}
 use Rattle.am_types.specs.Fine.{Fine, pred_count}
+use Rattle.am_types.specs.Limits.{most_changes, most_operations}
+use Rattle.am_types.specs.Totals.{totals_of, totals_with, limit_of, AreWithinLimits, IsWithinLimits}
 use Rattle.am_types.specs.Members.{Member, changes}
 use Rattle.am_types.specs.ValidSets.{Valid}
 use Rattle.am_types.specs.Verdicts.{limit_passed}
 use Rattle.am_laws.proofs.Rules.{keeps_rules}
-use Rattle.am_fits.specs.declared.totals.Totals.{Totals}
-use Rattle.am_fits.specs.Sums.{totals_of, totals_with, limit_of, AreWithinLimits, IsWithinLimits}
 
 or_none : (o r : Option Limit) → option_or o r ≡ None → (o ≡ None) × (r ≡ None)
 or_none None r e = (refl, e)
@@ -34,7 +35,7 @@ within_none t e =
     let b = or_none _ _ a.1 in
     let c = or_none _ _ b.1 in
     let d = or_none _ _ c.1 in
-    record { changes = above_none (2 ^ 20) t.changes _ a.0; operations = above_none (2 ^ 22) t.operations _ b.0; preds = above_none (2 ^ 22) t.preds _ c.0; links = above_none (2 ^ 22) t.links _ d.0 }
+    record { changes = above_none most_changes t.changes _ a.0; operations = above_none most_operations t.operations _ b.0; preds = above_none most_operations t.preds _ c.0; links = above_none most_operations t.links _ d.0 }
 
 pub set_within : (C : List Member) → Valid C → AreWithinLimits (totals_of (changes C))
 set_within C v = within_none (totals_of (changes C)) (keeps_rules C v).limits

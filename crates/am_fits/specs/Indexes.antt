@@ -11,15 +11,15 @@ use Rattle.std.specs.Prelude.{◌≡◌, List, [], ◌∷◌, ◌++◌, IsTrue}
 use Rattle.am_types.specs.declared.OpId.{OpId}
 use Rattle.am_types.specs.declared.Hash.{Hash}
 use Rattle.am_types.specs.declared.Change.{Change}
+use Rattle.am_types.specs.declared.Totals.{Totals}
 use Rattle.am_types.specs.Fine.{Fine}
 use Rattle.am_types.specs.Members.{Member, changes, holds_deps}
 use Rattle.am_types.specs.Operations.{operations}
+use Rattle.am_types.specs.Totals.{totals_of, totals_with}
 use Rattle.am_types.specs.ValidSets.{Valid, IsValidSet}
 use Rattle.am_graph.specs.declared.node.Node.{Node}
 use Rattle.am_graph.specs.Graphs.{nodes}
-use Rattle.am_fits.specs.declared.totals.Totals.{Totals}
 use Rattle.am_fits.specs.Facts.{Fact, facts, facts_of}
-use Rattle.am_fits.specs.Sums.{totals_of, totals_with}
 
 pub record Indexed : Type 0 where
   pub facts : List (OpId × Fact)

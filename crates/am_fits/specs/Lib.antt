@@ -1,5 +1,4 @@
 pub mod Facts
-pub mod Sums
 pub mod Indexes
 pub mod Words
 pub mod Runs

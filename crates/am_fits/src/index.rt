@@ -1,13 +1,12 @@
 //! The index of the operations of a set.
 ghost use Rattle.std.specs.Prelude.{◌≡◌, ◌++◌, ◌∷◌, [], List, OnOk, OnErr};
 ghost use Rattle.am_types.specs.declared.Change.{Change as AChange};
+ghost use Rattle.am_types.specs.Totals.{totals_of};
 ghost use Rattle.am_fits.specs.Indexes.{index_of, index_with, ForChanges, MayAdmit};
-ghost use Rattle.am_fits.specs.Sums.{totals_of};
 ghost use Rattle.am_fits.specs.Tables.{facts_in, IsTable};
 
 use crate::table::Table;
-use crate::totals::Totals;
-use am_types::{ReadChange, Twin};
+use am_types::{ReadChange, Totals, Twin};
 use std::alloc::{AllocError, Global};
 use std::marker::Model;
 

@@ -10,9 +10,7 @@ mod seen;
 mod spans;
 mod table;
 mod texts;
-mod totals;
 
-pub use am_types::{Limit, Verdict};
+pub use am_types::{Limit, Totals, Verdict};
 pub use fit::fits;
 pub use index::OpIndex;
-pub use totals::Totals;

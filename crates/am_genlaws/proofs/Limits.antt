@@ -11,7 +11,8 @@ use Rattle.am_types.specs.declared.Limit.TheVariants.{Changes, Operations, Preds
 use Rattle.am_types.specs.declared.Verdict.TheVariants.{Full}
 use Rattle.am_types.specs.Fine.{pred_count}
 use Rattle.am_types.specs.Members.{Member, changes}
-use Rattle.am_types.specs.Verdicts.{above, first_some, full}
+use Rattle.am_types.specs.Limits.{above, first_some}
+use Rattle.am_types.specs.Verdicts.{full}
 use Rattle.am_genlaws.proofs.Shapes.{IsSmall}
 
 not_above : (most n : ℕ) (limit : Limit) → n ≤ most → above most n limit ≡ None

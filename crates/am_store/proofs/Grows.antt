@@ -5,16 +5,16 @@ use Rattle.std.proofs.lemmas.List.{map-append, append-nil, append_assoc, length-
 use Rattle.std.proofs.lemmas.List.Elements.{All-append}
 use Rattle.am_types.specs.declared.Hash.{Hash}
 use Rattle.am_types.specs.declared.Change.{Change}
+use Rattle.am_types.specs.declared.Totals.{Totals}
 use Rattle.am_types.specs.Members.{Member, changes}
+use Rattle.am_types.specs.Totals.{totals_of}
 use Rattle.am_types.specs.ValidSets.{Valid, Joins}
 use Rattle.am_types.specs.Documents.{table}
 use Rattle.am_change.specs.Judgement.{HasOwnHashes}
 use Rattle.am_graph.specs.declared.Node.{Node}
 use Rattle.am_graph.specs.Graphs.{node_of, nodes, is_held}
 use Rattle.am_graph.proofs.Held.{is_held-nodes}
-use Rattle.am_fits.specs.declared.Totals.{Totals}
 use Rattle.am_fits.specs.Indexes.{Indexed, AreOf, MayAdmit, index_of}
-use Rattle.am_fits.specs.Sums.{totals_of}
 use Rattle.am_delivery.specs.Waiting.{member_of, members_of}
 use Rattle.am_delivery.specs.Laws.{JoinedIsValid}
 use Rattle.am_delivery.proofs.Steady.{valid_push}

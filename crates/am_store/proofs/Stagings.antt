@@ -4,11 +4,11 @@ use Rattle.std.proofs.lemmas.List.{map-append, append-nil, append_assoc}
 use Rattle.std.proofs.lemmas.List.Elements.{All-append, All-nil}
 use Rattle.am_types.specs.declared.Hash.{Hash}
 use Rattle.am_types.specs.declared.Change.{Change}
+use Rattle.am_types.specs.declared.Totals.{Totals}
 use Rattle.am_types.specs.Members.{Member, changes}
 use Rattle.am_types.specs.ValidSets.{Valid}
 use Rattle.am_change.specs.Judgement.{HasOwnHashes}
 use Rattle.am_graph.specs.declared.Node.{Node}
-use Rattle.am_fits.specs.declared.Totals.{Totals}
 use Rattle.am_fits.specs.Indexes.{Indexed, AreOf}
 use Rattle.am_delivery.specs.Waiting.{members_of}
 use Rattle.am_store.specs.Contents.{IsContents}

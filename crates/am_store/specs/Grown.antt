@@ -8,13 +8,13 @@ use Rattle.std.specs.Prelude.{◌≡◌, List, ◌++◌, Option, IfSome, Vec, ve
 use Rattle.std.specs.Global.{Global}
 use Rattle.am_types.specs.declared.Hash.{Hash}
 use Rattle.am_types.specs.declared.Change.{Change}
+use Rattle.am_types.specs.declared.Totals.{Totals}
 use Rattle.am_types.specs.Members.{Member, changes}
+use Rattle.am_types.specs.Totals.{totals_of}
 use Rattle.am_types.specs.ValidSets.{Valid, Joins}
 use Rattle.am_change.specs.Contents.{hash}
 use Rattle.am_graph.specs.declared.Node.{Node}
-use Rattle.am_fits.specs.declared.Totals.{Totals}
 use Rattle.am_fits.specs.Indexes.{Indexed, AreOf}
-use Rattle.am_fits.specs.Sums.{totals_of}
 use Rattle.am_delivery.specs.Waiting.{members_of}
 
 pub record Grown : Type 0 where

@@ -2,14 +2,16 @@
 --     Kept                        the two sets of a store, closed and waiting
 --     nothing                     the two sets of an empty store
 --     IsKept k                    what holds of the two sets of each store
---     counts_of k                 how many changes there are, and how many operations, predecessors and dependencies
+--     counts_with t n             the totals t of a closed set, beside the number n of the waiting changes
+--     counts_of k                 those of the sets k
 --     Takes old L r new           the members L, delivered to the sets old, leave the sets new, each in some order, with the
 --                                 report r
 --     Delivered old cs r new      the same of the changes cs, each beside its own hash
-use Rattle.std.specs.Prelude.{◌≡◌, ◌+◌, List, [], ◌++◌, length, sum_by, IsPermutation}
+use Rattle.std.specs.Prelude.{ℕ, ◌≡◌, ◌+◌, List, [], ◌++◌, length, IsPermutation}
 use Rattle.am_types.specs.declared.Change.{Change}
-use Rattle.am_types.specs.Fine.{pred_count}
+use Rattle.am_types.specs.declared.Totals.{Totals}
 use Rattle.am_types.specs.Members.{Member, changes}
+use Rattle.am_types.specs.Totals.{totals_of}
 use Rattle.am_types.specs.Deliver.{AreStored, deliver}
 use Rattle.am_change.specs.Hashes.{with_hashes}
 use Rattle.am_change.specs.Judgement.{HasOwnHashes}
@@ -29,14 +31,11 @@ pub record IsKept (k : Kept) : Type 0 where
   pub stored : AreStored k.closed k.waiting
   pub own_hashes : HasOwnHashes (k.closed ++ k.waiting)
 
+abbrev pub counts_with : Totals → ℕ → Counts
+counts_with t n = record { changes = t.changes; operations = t.operations; preds = t.preds; links = t.links; waiting = n }
+
 abbrev pub counts_of : Kept → Counts
-counts_of k = record {
-  changes = length k.closed;
-  operations = sum_by (λ c. length c.ops) (changes k.closed);
-  preds = sum_by (λ c. pred_count c.ops) (changes k.closed);
-  links = sum_by (λ c. length c.deps) (changes k.closed);
-  waiting = length k.waiting;
-}
+counts_of k = counts_with (totals_of (changes k.closed)) (length k.waiting)
 
 pub record Takes (old : Kept) (L : List Member) (report : Report) (new : Kept) : Type 0 where
   pub closed : IsPermutation (deliver old.closed old.waiting L).closed new.closed

@@ -1,5 +1,6 @@
 //! What a store tells of deliveries and of itself.
 ghost use Rattle.std.specs.Prelude.{◌≡◌};
+ghost use Rattle.am_store.specs.Kept.{counts_with};
 
 use am_fits::Totals;
 use am_types::{List, Rejected};
@@ -32,7 +33,7 @@ pub struct Counts {
 
 /// The totals of a closed set, beside the number of the waiting changes.
 pub(crate) fn counted(totals: Totals, waiting: u64) -> Counts
-    ensures { result ≡ record { changes = totals.changes; operations = totals.operations; preds = totals.preds; links = totals.links; waiting = waiting } }
+    ensures { result ≡ counts_with totals waiting }
 {
     Counts {
         changes: totals.changes,

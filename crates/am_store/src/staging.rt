@@ -1,7 +1,7 @@
 //! A closed set whose last changes aren't in its document yet.
 ghost use Rattle.std.specs.Prelude.{◌≡◌, ◌++◌, List, [], IfOk, IfErr, OnOk, OnErr, map, vec_items};
 ghost use Rattle.am_types.specs.Members.{changes};
-ghost use Rattle.am_fits.specs.Sums.{totals_of};
+ghost use Rattle.am_types.specs.Totals.{totals_of};
 ghost use Rattle.am_graph.specs.Graphs.{nodes};
 ghost use Rattle.am_delivery.specs.Waiting.{members_of};
 ghost use Rattle.am_store.specs.Contents.{IsContents};

@@ -4,6 +4,7 @@ pub mod Rising
 pub mod Permuted
 pub mod SameLaws
 pub mod Lists
+pub mod PredCounts
 pub mod Permutations
 pub mod NumberLaws
 pub mod Marks

@@ -9,7 +9,9 @@ pub mod Same
 pub mod Owned
 pub mod Actions
 pub mod Operations
+pub mod Limits
 pub mod Fine
+pub mod Totals
 pub mod Members
 pub mod Ancestors
 pub mod References

@@ -8,6 +8,7 @@ pub use Rattle.am_types.specs.declared.ids.Key.TheVariants.{Name, Head, Elem}
 pub use Rattle.am_types.specs.declared.value.RawValue.{RawValue}
 pub use Rattle.am_types.specs.declared.change.Op.{Op}
 pub use Rattle.am_types.specs.declared.change.Change.{Change}
+pub use Rattle.am_types.specs.declared.totals.Totals.{Totals}
 pub use Rattle.am_types.specs.declared.document.Row.{Row}
 pub use Rattle.am_types.specs.declared.document.Meta.{Meta}
 pub use Rattle.am_types.specs.declared.document.Table.{Table}

@@ -8,15 +8,15 @@
 --     start_low A c         a dependency ends at the start of c or above, as `max` has it
 --     bad_reference A c     an operation of c names what isn't there
 --     full C c              with c, the set would pass a limit
-use Rattle.std.specs.Prelude.{ℕ, ◌≡◌, ◌-◌, ◌^◌, Bool, not, ◌&&◌, ◌==◌, nat_le, nat_lt, List, [], ◌∷◌, length, find, sum_by, Option, None, option_map, unwrap_or}
-use Rattle.std.specs.Option.{option_or}
+use Rattle.std.specs.Prelude.{ℕ, ◌≡◌, ◌-◌, Bool, not, ◌&&◌, ◌==◌, nat_le, nat_lt, List, [], ◌∷◌, find, Option, None, option_map, unwrap_or}
 use Rattle.std.specs.Bool.{then_some}
 use Rattle.std.specs.List.{list_any}
-use Rattle.am_types.specs.Records.{Change, Limit, Changes, Operations, Preds, Links, Verdict, Fits, SeqClash, SeqGap, StartLow, BadReference, Full}
+use Rattle.am_types.specs.Records.{Change, Limit, Verdict, Fits, SeqClash, SeqGap, StartLow, BadReference, Full}
 use Rattle.am_types.specs.Order.{hash_cmp, same}
 use Rattle.am_types.specs.Same.{same_bytes}
 use Rattle.am_types.specs.Operations.{operations, all_operations, max}
-use Rattle.am_types.specs.Fine.{pred_count}
+use Rattle.am_types.specs.Limits.{first_some}
+use Rattle.am_types.specs.Totals.{totals_of, limit_of}
 use Rattle.am_types.specs.Members.{Member, changes}
 use Rattle.am_types.specs.Ancestors.{ancestors}
 use Rattle.am_types.specs.References.{first_bad}
@@ -38,23 +38,9 @@ start_low A c = option_map StartLow (find (λ h. list_any (λ m. same hash_cmp m
 abbrev pub bad_reference : List Member → Change → Option Verdict
 bad_reference A c = option_map BadReference (first_bad (all_operations (changes A)) (operations c))
 
--- the answer of the first that has one
-abbrev pub first_some : {X : Type 0} → List (Option X) → Option X
-first_some [] = None
-first_some (o ∷ os) = option_or o (first_some os)
-
--- the limit, where n is above it
-abbrev pub above : ℕ → ℕ → Limit → Option Limit
-above most n limit = then_some (nat_lt most n) limit
-
 -- the first limit that the changes of a set pass
 abbrev pub limit_passed : List Change → Option Limit
-limit_passed cs = first_some (
-    above (2 ^ 20) (length cs) Changes
-    ∷ above (2 ^ 22) (sum_by (λ c. length c.ops) cs) Operations
-    ∷ above (2 ^ 22) (sum_by (λ c. pred_count c.ops) cs) Preds
-    ∷ above (2 ^ 22) (sum_by (λ c. length c.deps) cs) Links
-    ∷ [])
+limit_passed cs = limit_of (totals_of cs)
 
 abbrev pub full : List Member → Change → Option Verdict
 full C c = option_map Full (limit_passed (c ∷ changes C))

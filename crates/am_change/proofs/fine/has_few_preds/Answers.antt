@@ -2,7 +2,7 @@ use Rattle.std.proofs.Common.{◌≡◌, ◌+◌, ◌-◌, ◌^◌, length, map,
 use Rattle.std.proofs.lemmas.List.Sums.{sum_by-take-le}
 use Rattle.am_types.specs.declared.Op.{Op}
 use Rattle.am_types.specs.Fine.{pred_count}
-use Rattle.am_change.proofs.OneByOne.{count_next}
+use Rattle.am_types.proofs.PredCounts.{count_next}
 use Rattle.am_change.proofs.fine.has_few_preds.Goals as goal
 
 pub returns-then-count-room : goal.returns-then-count-room

@@ -1,8 +1,8 @@
 use Rattle.std.proofs.Common.{ℕ, ◌≡◌, ◌∙◌, List, Some, None, ap, sym, subst}
 use Rattle.am_types.specs.Ancestors.{ancestors}
+use Rattle.am_types.specs.Totals.{totals_with, limit_of, AreWithinLimits}
 use Rattle.am_graph.specs.Clocks.{IsClockOf}
 use Rattle.am_graph.specs.Graphs.{IsLeast, having, missing, MatchFault}
-use Rattle.am_fits.specs.Sums.{totals_with, limit_of, AreWithinLimits}
 use Rattle.am_fits.proofs.Outcomes.{by_clash, by_gap, by_low, by_reference, by_limit, by_none, bad_of, good_of, nothing_missing}
 use Rattle.am_fits.proofs.Sums.{set_within}
 use Rattle.am_fits.proofs.fit.fits.Goals as goal

@@ -1,7 +1,7 @@
 use Rattle.std.proofs.Common.{◌≡◌, All, None, sym, subst}
 use Rattle.am_types.specs.Operations.{operations}
+use Rattle.am_types.specs.Totals.{AreWithinLimits}
 use Rattle.am_fits.specs.Facts.{fact_with}
-use Rattle.am_fits.specs.Sums.{AreWithinLimits}
 use Rattle.am_fits.proofs.Fresh.{ids_new, is_fine, end_low, totals_low}
 use Rattle.am_fits.proofs.Sums.{change_within}
 use Rattle.am_fits.proofs.index.OpIndex.admit.Goals as goal

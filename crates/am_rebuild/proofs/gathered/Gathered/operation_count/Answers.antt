@@ -1,7 +1,7 @@
 use Rattle.std.proofs.Common.{List, length, ap, ◌∙◌}
+use Rattle.am_types.specs.declared.Totals.{Totals}
 use Rattle.am_types.specs.Members.{Member, changes}
 use Rattle.am_types.specs.Operations.{all_operations}
-use Rattle.am_fits.specs.declared.totals.Totals.{Totals}
 use Rattle.am_fits.specs.Indexes.{Indexed}
 use Rattle.am_delivery.specs.Waiting.{members_of}
 use Rattle.am_rebuild.proofs.Entries.{operation_count}

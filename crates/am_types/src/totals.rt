@@ -1,9 +1,13 @@
 //! How many changes a set has, and how many operations, predecessors and dependencies they have in all.
-ghost use Rattle.std.specs.Prelude.{◌≡◌, ◌≤◌, ◌^◌, map};
+ghost use Rattle.std.specs.Prelude.{◌≡◌, ◌≤◌, map};
 ghost use Rattle.am_types.specs.Fine.{pred_count};
-ghost use Rattle.am_fits.specs.Sums.{totals_of, totals_with, limit_of, AreWithinLimits, IsWithinLimits};
+ghost use Rattle.am_types.specs.Limits.{most_operations};
+ghost use Rattle.am_types.specs.Totals.{totals_with, limit_of, AreWithinLimits, IsWithinLimits};
 
-use am_types::{Limit, MOST_CHANGES, MOST_OPERATIONS, ReadChange, ReadOp};
+use crate::limits::{MOST_CHANGES, MOST_OPERATIONS};
+use crate::read_change::ReadChange;
+use crate::read_op::ReadOp;
+use crate::verdict::Limit;
 
 /// What the changes of a set have in all.
 #[derive(Clone, Copy, Debug, PartialEq, Eq)]
@@ -20,7 +24,7 @@ pub struct Totals {
 
 impl Totals {
     /// Those of the set and of one more change.
-    pub(crate) fn with<C: ReadChange>(&self, change: &C) -> Totals
+    pub fn with<C: ReadChange>(&self, change: &C) -> Totals
         requires set { AreWithinLimits self.now }
         requires change { IsWithinLimits (C.change change.now) }
         ensures { result ≡ totals_with self.now (C.change change.now) }
@@ -34,7 +38,7 @@ impl Totals {
     }
 
     /// The first limit that is passed.
-    pub(crate) fn limit(&self) -> Option<Limit>
+    pub fn limit(&self) -> Option<Limit>
         ensures { result ≡ limit_of self.now }
     {
         if self.changes > MOST_CHANGES {
@@ -53,7 +57,7 @@ impl Totals {
 
 // How many predecessors the operations have in all.
 fn pred_count<O: ReadOp>(ops: &[O]) -> u64
-    requires { pred_count (map O.op ops.now) ≤ 2 ^ 22 }
+    requires { pred_count (map O.op ops.now) ≤ most_operations }
     ensures { result ≡ pred_count (map O.op ops.now) }
 {
     let mut count = 0;
