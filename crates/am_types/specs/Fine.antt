@@ -16,6 +16,7 @@ use Rattle.am_types.specs.Actors.{IsActor}
 use Rattle.am_types.specs.Bytes.{IsBytes, IsHash}
 use Rattle.am_types.specs.Records.{OpId, ObjId, Root, Made, Key, Name, Head, Elem, Op, Change}
 use Rattle.am_types.specs.Order.{id_cmp, hash_cmp, Ascends}
+use Rattle.am_types.specs.Limits.{most_operations}
 use Rattle.am_types.specs.Operations.{max}
 use Rattle.am_types.specs.Values.{Good}
 
@@ -74,18 +75,18 @@ pred_count ops = sum_by (λ op. length op.preds) ops
 pub record GoodNumbers (c : Change) : Type 0 where
   pub seq : (1 ≤ c.seq) × (c.seq < 2 ^ 53)
   pub start : 1 ≤ c.start
-  pub few_ops : length c.ops ≤ 2 ^ 22
+  pub few_ops : length c.ops ≤ most_operations
   pub max : max c < 2 ^ 53
   pub time : (neg_ℤ (pos (2 ^ 62)) <ℤ c.time) × (c.time <ℤ pos (2 ^ 62))
 
 pub record Fine (c : Change) : Type 0 where
   pub deps : All IsHash c.deps
   pub deps_ascend : Ascends hash_cmp c.deps
-  pub few_deps : length c.deps ≤ 2 ^ 22
+  pub few_deps : length c.deps ≤ most_operations
   pub actor : IsActor c.actor
   pub numbers : GoodNumbers c
   pub message : IsUtf8 c.message
   pub extra : IsBytes c.extra
   pub short_extra : length c.extra < 2 ^ 60
-  pub few_preds : pred_count c.ops ≤ 2 ^ 22
+  pub few_preds : pred_count c.ops ≤ most_operations
   pub ops : All FineOp c.ops
