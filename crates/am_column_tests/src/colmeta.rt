@@ -59,6 +59,9 @@ fn refuses_in_order(rt: HostRuntime) {
             Err(fault) => assert!(rt; want == Some(fault), "another fault is told"),
         }
     }
+    // metadata that are cut off
+    assert!(rt; ColumnList::read(&METADATA[..15]).is_err());
+    assert!(rt; ColumnList::read(&[]).is_err());
 }
 
 #[test]
@@ -67,7 +70,7 @@ fn reads_the_columns_of_a_change(rt: HostRuntime) {
     assert!(rt; size == 16);
     assert!(rt; !list.compressed());
     assert!(rt; list.total() == 13);
-    let columns = Columns::over(list.again(), &BODY, &KNOWN).expect(
+    let mut columns = Columns::over(list.again(), &BODY, &KNOWN).expect(
         &rt,
         "the columns fill the body",
     );
@@ -75,12 +78,6 @@ fn reads_the_columns_of_a_change(rt: HostRuntime) {
     assert!(rt; columns.again().find(0x57) == &[0x01][..]);
     assert!(rt; columns.find(0xb2) == &[0x7f, 0x05][..]);
     assert!(rt; columns.find(0x25).is_empty());
-}
-
-#[test]
-fn takes_off_one_column_after_another(rt: HostRuntime) {
-    let (list, _) = ColumnList::read(&METADATA).expect(&rt, "the metadata can be read");
-    let mut columns = Columns::over(list, &BODY, &KNOWN).expect(&rt, "the columns fill the body");
     let mut rest = &BODY[..];
     for specification in KNOWN {
         let (told, column) = columns.next().expect(&rt, "there is a column more");
@@ -93,10 +90,28 @@ fn takes_off_one_column_after_another(rt: HostRuntime) {
     assert!(rt; columns.next().is_none());
 }
 
+// The columns of that change, two of them without bytes, by their lengths.
+const LENGTHS: &[(u64, u64)] = &[
+    (0x15, 3),
+    (0x25, 0),
+    (0x34, 1),
+    (0x42, 2),
+    (0x56, 2),
+    (0x57, 1),
+    (0x70, 2),
+    (0xa5, 0),
+    (0xb2, 2),
+];
+
 #[test]
-fn refuses_metadata_that_are_cut_off(rt: HostRuntime) {
-    assert!(rt; ColumnList::read(&METADATA[..15]).is_err());
-    assert!(rt; ColumnList::read(&[]).is_err());
+fn writes_metadata_by_lengths(rt: HostRuntime) -> Result<(), AllocError> {
+    let mut metadata = Vec::new(rt.alloc());
+    metadata.push(0xee)?;
+    push_metadata(&mut metadata, LENGTHS)?;
+    assert!(rt; metadata.as_slice().starts_with(&[0xee]));
+    assert!(rt; metadata.as_slice().ends_with(&METADATA));
+    assert!(rt; metadata.len() == 17);
+    Ok(())
 }
 
 #[test]
@@ -117,40 +132,6 @@ fn writes_the_columns_of_a_change(rt: HostRuntime) -> Result<(), AllocError> {
     Ok(())
 }
 
-// The columns of that change, two of them without bytes, by their lengths.
-#[test]
-fn writes_metadata_by_lengths(rt: HostRuntime) -> Result<(), AllocError> {
-    let mut metadata = Vec::new(rt.alloc());
-    metadata.push(0xee)?;
-    let columns: [(u64, u64); 9] = [
-        (0x15, 3),
-        (0x25, 0),
-        (0x34, 1),
-        (0x42, 2),
-        (0x56, 2),
-        (0x57, 1),
-        (0x70, 2),
-        (0xa5, 0),
-        (0xb2, 2),
-    ];
-    push_metadata(&mut metadata, &columns)?;
-    assert!(rt; metadata.as_slice().starts_with(&[0xee]));
-    assert!(rt; metadata.as_slice().ends_with(&METADATA) && metadata.len() == 17);
-    Ok(())
-}
-
-#[test]
-fn reads_a_list_of_actors(rt: HostRuntime) {
-    let bytes: [u8; 7] = [0x02, 0x01, 0xaa, 0x02, 0xbb, 0xcc, 0xff];
-    let (actors, size) = ActorList::read(&bytes).expect(&rt, "the actors can be read");
-    assert!(rt; size == 6);
-    assert!(rt; actors.count() == 2);
-    assert!(rt; actors.get(0) == Some(&[0xaa][..]));
-    assert!(rt; actors.again().get(1) == Some(&[0xbb, 0xcc][..]));
-    assert!(rt; actors.get(2).is_none());
-    assert!(rt; ActorList::read(&bytes[..5]).is_err());
-}
-
 // The actors of the first list take as many bytes each, those of the second don't.
 const LISTS: &[&[u8]] = &[
     &[0x03, 0x01, 0xaa, 0x01, 0xbb, 0x01, 0xcc],
@@ -158,7 +139,7 @@ const LISTS: &[&[u8]] = &[
 ];
 
 #[test]
-fn leaves_out_actors(rt: HostRuntime) {
+fn reads_lists_of_actors(rt: HostRuntime) {
     for &bytes in LISTS {
         let (actors, size) = ActorList::read(bytes).expect(&rt, "the actors can be read");
         assert!(rt; size == bytes.len());
@@ -172,4 +153,12 @@ fn leaves_out_actors(rt: HostRuntime) {
         assert!(rt; actors.get(2) == Some(&[0xcc][..]));
         assert!(rt; actors.get(3).is_none());
     }
+    let bytes: [u8; 7] = [0x02, 0x01, 0xaa, 0x02, 0xbb, 0xcc, 0xff];
+    let (actors, size) = ActorList::read(&bytes).expect(&rt, "the actors can be read");
+    assert!(rt; size == 6);
+    assert!(rt; actors.count() == 2);
+    assert!(rt; actors.get(0) == Some(&[0xaa][..]));
+    assert!(rt; actors.again().get(1) == Some(&[0xbb, 0xcc][..]));
+    assert!(rt; actors.get(2).is_none());
+    assert!(rt; ActorList::read(&bytes[..5]).is_err());
 }

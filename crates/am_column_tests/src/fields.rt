@@ -1,6 +1,4 @@
 //! Outside values: the columns of the change that makes the text `ab`, part by part, and what each part refuses.
-ghost use Rattle.std.specs.Prelude.{◌≡◌, ◌≤◌, length, drop};
-
 use am_colmeta::ActorList;
 use am_fields::{
     ActionColumn, Actors, CountedObjects, DeltaColumn, FlagColumn, GREATEST_COUNTER, GroupColumns,
@@ -21,7 +19,7 @@ fn actors_of<'a>(rt: &impl Abort, others: &'a [u8]) -> Actors<'a> {
 }
 
 #[test]
-fn reads_numbers(rt: HostRuntime) {
+fn reads_numbers_and_deltas(rt: HostRuntime) {
     let mut numbers = NumberColumn::over(&[0x02, 0x07], 2).expect(&rt, "two numbers");
     assert!(rt; numbers.next() == Some(7));
     assert!(rt; numbers.again().left() == 1);
@@ -29,10 +27,6 @@ fn reads_numbers(rt: HostRuntime) {
     let mut nulls = NumberColumn::over(&[], 3).expect(&rt, "a column may be left out");
     nulls.skip(2);
     assert!(rt; nulls.next().is_none());
-}
-
-#[test]
-fn reads_deltas(rt: HostRuntime) {
     let mut deltas = DeltaColumn::over(&[0x02, 0x01], 2, 0, GREATEST_COUNTER).expect(
         &rt,
         "two deltas",
@@ -43,16 +37,18 @@ fn reads_deltas(rt: HostRuntime) {
 }
 
 #[test]
-fn reads_texts(rt: HostRuntime) {
+fn reads_texts_flags_and_actions(rt: HostRuntime) {
     let mut texts = TextColumn::over(&[0x7f, 0x01, 0x61], 1).expect(&rt, "a text");
-    assert!(rt; texts.again().left() == 1 && texts.next() == Some("a"));
-}
-
-#[test]
-fn reads_flags(rt: HostRuntime) {
+    assert!(rt; texts.again().left() == 1);
+    assert!(rt; texts.next() == Some("a"));
     let mut flags = FlagColumn::over(&[0x01, 0x01], 2).expect(&rt, "two flags");
-    assert!(rt; !flags.next() && flags.next());
+    assert!(rt; !flags.next());
+    assert!(rt; flags.next());
     assert!(rt; FlagColumn::over(&[0x00], 1).is_err());
+    let mut actions = ActionColumn::over(&[0x7f, 0x04, 0x02, 0x01]).expect(&rt, "three actions");
+    assert!(rt; actions.again().left() == 3);
+    assert!(rt; actions.next() == 4);
+    assert!(rt; ActionColumn::over(&[0x7f, 0x08]).is_err());
 }
 
 #[test]
@@ -67,7 +63,8 @@ fn reads_objects(rt: HostRuntime) {
     );
     assert!(rt; matches!(objects.next(), ObjRef::Root));
     let (like, count) = objects.like();
-    assert!(rt; count <= objects.left() && objects.left() == 2);
+    assert!(rt; objects.left() == 2);
+    assert!(rt; count <= 2);
     match like {
         ObjRef::Made(id) => assert!(rt; id.counter == 1),
         ObjRef::Root => assert!(rt; false, "an object that was made"),
@@ -99,66 +96,25 @@ fn told(object: ObjRef<'_>) -> Told {
     }
 }
 
-// The next three of these objects.
-fn three(objects: &mut CountedObjects<'_>) -> (Told, Told, Told)
-    requires { 3 ≤ length objects.old }
-    ensures { objects.new ≡ drop 3 objects.old }
-{
-    (
-        told(objects.next()),
-        told(objects.next()),
-        told(objects.next()),
-    )
-}
-
-type Six = ((Told, Told, Told), (Told, Told, Told));
-
-// The six objects.
-fn six(actors: &Actors<'_>) -> Option<Six> {
-    match CountedObjects::over(&OBJECT_ACTORS, &OBJECT_COUNTERS, actors, 6) {
-        Ok(mut objects) => Some((three(&mut objects), three(&mut objects))),
-        Err(_) => None,
-    }
-}
-
-// The last two of them, from a cursor and from the same again, and before them the fourth, with which the fifth was read.
-fn last_two(actors: &Actors<'_>) -> Option<(Told, Told, Told, Told, Told)> {
-    match CountedObjects::over(&OBJECT_ACTORS, &OBJECT_COUNTERS, actors, 6) {
-        Ok(mut objects) => {
-            three(&mut objects);
-            let fourth = told(objects.next());
-            let mut same = objects.again();
-            Some((
-                fourth,
-                told(same.next()),
-                told(same.next()),
-                told(objects.next()),
-                told(objects.next()),
-            ))
-        }
-        Err(_) => None,
-    }
-}
-
-fn are_objects(actors: &Actors<'_>, count: u64) -> bool {
-    CountedObjects::over(&OBJECT_ACTORS, &OBJECT_COUNTERS, actors, count).is_ok()
-}
-
 #[test]
 fn counts_objects(rt: HostRuntime) {
     let actors = actors_of(&rt, &[0x01, 0x01, 0xbb]);
-    let six = six(&actors);
-    let last = last_two(&actors);
-    let fewer = are_objects(&actors, 5);
-    let more = are_objects(&actors, 7);
-    assert!(rt;
-        six == Some((
-            ((0, 0), (0, 0), (1, 0xaa)),
-            ((1, 0xbb), (1, 0xbb), (2, 0xaa))
-        ))
+    let mut objects = CountedObjects::over(&OBJECT_ACTORS, &OBJECT_COUNTERS, &actors, 6).expect(
+        &rt,
+        "six objects",
     );
-    assert!(rt; last == Some(((1, 0xbb), (1, 0xbb), (2, 0xaa), (1, 0xbb), (2, 0xaa))));
-    assert!(rt; !fewer && !more);
+    assert!(rt; told(objects.next()) == (0, 0));
+    assert!(rt; told(objects.next()) == (0, 0));
+    assert!(rt; told(objects.next()) == (1, 0xaa));
+    assert!(rt; told(objects.next()) == (1, 0xbb));
+    // The fifth was read with the fourth.
+    let mut same = objects.again();
+    assert!(rt; told(same.next()) == (1, 0xbb));
+    assert!(rt; told(same.next()) == (2, 0xaa));
+    assert!(rt; told(objects.next()) == (1, 0xbb));
+    assert!(rt; told(objects.next()) == (2, 0xaa));
+    assert!(rt; CountedObjects::over(&OBJECT_ACTORS, &OBJECT_COUNTERS, &actors, 5).is_err());
+    assert!(rt; CountedObjects::over(&OBJECT_ACTORS, &OBJECT_COUNTERS, &actors, 7).is_err());
 }
 
 #[test]
@@ -178,14 +134,6 @@ fn reads_keys(rt: HostRuntime) {
 }
 
 #[test]
-fn reads_actions(rt: HostRuntime) {
-    let mut actions = ActionColumn::over(&[0x7f, 0x04, 0x02, 0x01]).expect(&rt, "three actions");
-    assert!(rt; actions.again().left() == 3);
-    assert!(rt; actions.next() == 4);
-    assert!(rt; ActionColumn::over(&[0x7f, 0x08]).is_err());
-}
-
-#[test]
 fn reads_values(rt: HostRuntime) {
     let mut values = ValueColumns::over(&[0x7f, 0x00, 0x02, 0x16], &[0x61, 0x62], 3).expect(
         &rt,
@@ -199,23 +147,16 @@ fn reads_values(rt: HostRuntime) {
     assert!(rt; ValueColumns::over(&[], &[0x61], 3).is_err());
 }
 
-// How many values the columns have, if none of their numbers is null.
-fn values_given(numbers: &[u8], raw: &[u8], count: u64) -> Option<u64> {
-    match ValueColumns::given(numbers, raw, count) {
-        Ok(values) => Some(values.left()),
-        Err(_) => None,
-    }
-}
-
 #[test]
 fn reads_values_that_are_given(rt: HostRuntime) {
     let numbers: [u8; 4] = [0x7f, 0x00, 0x02, 0x16];
-    assert!(rt; values_given(&numbers, &[0x61, 0x62], 3) == Some(3));
-    assert!(rt; values_given(&numbers, &[0x61, 0x62], 2).is_none());
-    assert!(rt; values_given(&numbers, &[0x61, 0x62], 4).is_none());
-    assert!(rt; values_given(&[0x00, 0x01], &[], 1).is_none());
-    assert!(rt; values_given(&[], &[], 1).is_none());
-    assert!(rt; values_given(&[], &[], 0) == Some(0));
+    let values = ValueColumns::given(&numbers, &[0x61, 0x62], 3).expect(&rt, "three values");
+    assert!(rt; values.left() == 3);
+    assert!(rt; ValueColumns::given(&numbers, &[0x61, 0x62], 2).is_err());
+    assert!(rt; ValueColumns::given(&numbers, &[0x61, 0x62], 4).is_err());
+    assert!(rt; ValueColumns::given(&[0x00, 0x01], &[], 1).is_err());
+    assert!(rt; ValueColumns::given(&[], &[], 1).is_err());
+    assert!(rt; ValueColumns::given(&[], &[], 0).is_ok());
 }
 
 #[test]
@@ -225,9 +166,9 @@ fn reads_ids(rt: HostRuntime) {
         &rt, "two ids",
     );
     ids.skip(1);
-    assert!(rt;
-        ids.left() == 1 && ids.again().next().counter == 2 && ids.next().actor == &[0xbb][..]
-    );
+    assert!(rt; ids.left() == 1);
+    assert!(rt; ids.again().next().counter == 2);
+    assert!(rt; ids.next().actor == &[0xbb][..]);
 }
 
 #[test]
@@ -241,11 +182,14 @@ fn reads_groups(rt: HostRuntime) {
         &actors,
         2,
     ).expect(&rt, "two groups");
-    assert!(rt; groups.left() == 2 && groups.lengths().next() == 0);
+    assert!(rt; groups.left() == 2);
+    assert!(rt; groups.lengths().next() == 0);
     assert!(rt; groups.next().next().is_none());
     assert!(rt; groups.lengths().next() == 2);
     let mut last = groups.again().next();
-    assert!(rt; last.again().next().is_some() && last.next().is_some() && last.next().is_some());
+    assert!(rt; last.again().next().is_some());
+    assert!(rt; last.next().is_some());
+    assert!(rt; last.next().is_some());
     assert!(rt; last.next().is_none());
     let mut cleared = groups.next();
     cleared.clear();
@@ -253,54 +197,31 @@ fn reads_groups(rt: HostRuntime) {
 }
 
 #[test]
-fn reads_groups_of_none(rt: HostRuntime) {
+fn reads_groups_without_lengths(rt: HostRuntime) {
     let actors = actors_of(&rt, &[0x01, 0x01, 0xbb]);
     assert!(rt; GroupColumns::over(&[0x00, 0x01], &[], &[], &actors, 1).is_ok());
     assert!(rt; GroupColumns::over(&[], &[], &[], &actors, 1).is_ok());
     assert!(rt; IdCursor::none().next().is_none());
-}
-
-// How many lists the columns have, if none of their lengths is null.
-fn groups_given(
-    group: &[u8],
-    actor: &[u8],
-    counter: &[u8],
-    actors: &Actors<'_>,
-    count: u64,
-) -> Option<u64> {
-    match GroupColumns::given(group, actor, counter, actors, count) {
-        Ok(groups) => Some(groups.left()),
-        Err(_) => None,
-    }
-}
-
-#[test]
-fn reads_groups_that_are_given(rt: HostRuntime) {
-    let actors = actors_of(&rt, &[0x01, 0x01, 0xbb]);
-    let both = groups_given(
+    let both = GroupColumns::given(
         &[0x7e, 0x00, 0x02],
         &[0x7e, 0x00, 0x01],
         &[0x02, 0x01],
         &actors,
         2,
-    );
-    let null = groups_given(&[0x00, 0x01], &[], &[], &actors, 1);
-    let left_out = groups_given(&[], &[], &[], &actors, 1);
-    assert!(rt; both == Some(2) && null.is_none() && left_out.is_none());
+    )
+    .expect(&rt, "two groups");
+    assert!(rt; both.left() == 2);
+    assert!(rt; GroupColumns::given(&[0x00, 0x01], &[], &[], &actors, 1).is_err());
+    assert!(rt; GroupColumns::given(&[], &[], &[], &actors, 1).is_err());
 }
 
 #[test]
-fn writes_numbers(rt: HostRuntime) -> Result<(), AllocError> {
+fn writes_numbers_and_texts(rt: HostRuntime) -> Result<(), AllocError> {
     let mut numbers = NumberWriter::new(rt.alloc());
     numbers.push(Some(1))?;
     numbers.push(Some(1))?;
     numbers.push(None)?;
     assert!(rt; numbers.finish()?.as_slice() == &[0x02, 0x01, 0x00, 0x01][..]);
-    Ok(())
-}
-
-#[test]
-fn writes_texts(rt: HostRuntime) -> Result<(), AllocError> {
     let mut texts = TextWriter::new(rt.alloc());
     texts.push(Some("a"))?;
     assert!(rt; texts.finish()?.as_slice() == &[0x7f, 0x01, 0x61][..]);

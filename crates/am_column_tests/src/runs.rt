@@ -5,28 +5,6 @@ use am_runs::{
 };
 use std::alloc::AllocError;
 
-#[test]
-fn written(rt: HostRuntime) -> Result<(), AllocError> {
-    let mut writer = RunWriter::<UnsignedItem>::new(rt.alloc());
-    writer.push(None)?;
-    writer.push(None)?;
-    assert!(rt; writer.finish()?.as_slice().is_empty());
-    Ok(())
-}
-
-#[test]
-fn written_numbers(rt: HostRuntime) -> Result<(), AllocError> {
-    let mut writer = RunWriter::<UnsignedItem>::new(rt.alloc());
-    assert!(rt; UnsignedItem::end(&[1]) == Some(1));
-    writer.push(Some(&[1]))?;
-    assert!(rt; UnsignedItem::end(&[2]) == Some(1));
-    writer.push(Some(&[2]))?;
-    assert!(rt; UnsignedItem::end(&[3]) == Some(1));
-    writer.push(Some(&[3]))?;
-    assert!(rt; writer.finish()?.as_slice() == &[0x7d, 1, 2, 3][..]);
-    Ok(())
-}
-
 // Values, and the bytes that they are written as.
 const LISTS: &[(&[Option<u64>], &[u8])] = &[
     (&[], &[]),
@@ -45,26 +23,36 @@ const LISTS: &[(&[Option<u64>], &[u8])] = &[
 ];
 
 #[test]
-fn written_at_once(rt: HostRuntime) -> Result<(), AllocError> {
+fn written(rt: HostRuntime) -> Result<(), AllocError> {
     for &(values, bytes) in LISTS {
         assert!(rt; values.len() <= 5);
         let mut out = Vec::new(rt.alloc());
         push_list::<u64, UnsignedItem>(&mut out, values)?;
         assert!(rt; out.as_slice() == bytes, "of {values:?}");
     }
+    let mut writer = RunWriter::<UnsignedItem>::new(rt.alloc());
+    writer.push(None)?;
+    writer.push(None)?;
+    assert!(rt; writer.finish()?.as_slice().is_empty());
     Ok(())
 }
 
 #[test]
-fn counted(rt: HostRuntime) -> Result<(), AllocError> {
+fn written_numbers(rt: HostRuntime) -> Result<(), AllocError> {
     let mut writer = RunWriter::<UnsignedItem>::new(rt.alloc());
-    let nothing_is_pending = !writer.count_byte(5, 1);
+    // Nothing is pending, then another byte, then it is this one.
+    assert!(rt; !writer.count_byte(5, 1));
+    assert!(rt; UnsignedItem::end(&[1]) == Some(1));
+    writer.push(Some(&[1]))?;
+    assert!(rt; UnsignedItem::end(&[2]) == Some(1));
+    writer.push(Some(&[2]))?;
+    assert!(rt; UnsignedItem::end(&[3]) == Some(1));
+    writer.push(Some(&[3]))?;
     assert!(rt; UnsignedItem::end(&[5]) == Some(1));
     writer.push_alike(Some(&[5]), 2)?;
-    let another_is = !writer.count_byte(6, 1);
-    let it_is = writer.count_byte(5, 2);
-    assert!(rt; writer.finish()?.as_slice() == &[4, 5][..]);
-    assert!(rt; nothing_is_pending && another_is && it_is);
+    assert!(rt; !writer.count_byte(6, 1));
+    assert!(rt; writer.count_byte(5, 2));
+    assert!(rt; writer.finish()?.as_slice() == &[0x7d, 1, 2, 3, 4, 5][..]);
     Ok(())
 }
 
@@ -106,86 +94,90 @@ fn pushed_next(rt: HostRuntime) -> Result<(), AllocError> {
     Ok(())
 }
 
-#[test]
-fn numbers_alike(rt: HostRuntime) {
-    let mut numbers = UnsignedCursor::over(&[3, 5, 0x7f, 1], 4).expect(
-        &rt,
-        "the numbers can be read",
-    );
-    assert!(rt; numbers.next() == Some(Some(5)));
-    assert!(rt; numbers.next_alike_within(4) == Some((Some(5), 2)));
-    assert!(rt; numbers.next_alike_within(4) == Some((Some(1), 1)));
-    assert!(rt; numbers.next_alike_within(4) == None);
-}
-
-#[test]
-fn texts_alike(rt: HostRuntime) {
-    let mut texts = TextCursor::over(&[3, 1, 0x61], 3).expect(&rt, "the texts can be read");
-    assert!(rt; texts.next() == Some(Some("a")));
-    assert!(rt; texts.next_alike_within(1) == Some((Some("a"), 1)));
-    assert!(rt; texts.left() == 1);
-}
-
-// Spellings, the most entries, whether they are canonical, and whether they can be read
-const SPELLINGS: &[(&[&[u8]], u64, bool, bool)] = &[
+// Spellings, the most entries, whether they are canonical as unsigned numbers, and whether they can be read as unsigned
+// and as signed ones
+const SPELLINGS: &[(&[u8], u64, bool, bool, bool)] = &[
+    (&[], 8, true, true, true),
+    (&[0x7d, 1, 2, 3], 8, true, true, true),
+    (&[2, 1, 0x7f, 2], 8, true, true, true),
+    (&[0, 1, 0x7f, 3], 8, true, true, true),
+    (&[0x7f, 3, 0, 1], 8, true, true, true),
+    (&[3, 5, 0, 2, 2, 0xac, 2, 0x7f, 1], 8, true, true, true),
+    (&[0x7f, 1, 3, 2, 0x7e, 3, 4], 8, true, true, true),
+    (&[0x7d, 1, 1, 2], 8, false, true, true),
+    (&[1, 1], 8, false, true, true),
+    (&[0x7f, 1, 0x7f, 2], 8, false, true, true),
+    (&[0, 1, 0, 1, 0x7f, 3], 8, false, true, true),
+    (&[0, 2], 8, false, true, true),
+    (&[2, 1, 0x7f, 1], 8, false, true, true),
+    (&[2, 1, 2, 1], 8, false, true, true),
+    (&[0, 0], 1000, false, false, false),
+    (&[0, 0x80, 0], 1000, false, false, false),
+    (&[2], 1000, false, false, false),
+    (&[0x7e, 1], 1000, false, false, false),
+    (&[0x82, 0, 1], 1000, false, false, false),
+    (&[2, 0x81, 0], 1000, false, false, false),
+    // a literal run, which has as many numbers as it says or not
+    (&[0x7e, 0x80, 1, 1], 3, true, true, true),
+    (&[0x7e, 1, 0x80, 0], 3, false, false, false),
+    (&[0x7e, 0xc0, 0, 5], 3, false, false, true),
+    (&[0x7e, 0xbf, 0x7f, 5], 3, true, true, true),
+    (&[0x7e, 0xff, 0x7f, 5], 3, true, true, false),
     (
-        &[
-            &[],
-            &[0x7d, 1, 2, 3],
-            &[2, 1, 0x7f, 2],
-            &[0, 1, 0x7f, 3],
-            &[0x7f, 3, 0, 1],
-            &[3, 5, 0, 2, 2, 0xac, 2, 0x7f, 1],
-            &[0x7f, 1, 3, 2, 0x7e, 3, 4],
-        ],
-        8,
+        &[0x7f, 0x80, 0x80, 0x80, 0x80, 0x80, 0x80, 0x80, 0x80, 1],
+        3,
         true,
         true,
-    ),
-    (
-        &[
-            &[0x7d, 1, 1, 2],
-            &[1, 1],
-            &[0x7f, 1, 0x7f, 2],
-            &[0, 1, 0, 1, 0x7f, 3],
-            &[0, 2],
-            &[2, 1, 0x7f, 1],
-            &[2, 1, 2, 1],
-        ],
-        8,
-        false,
         true,
     ),
     (
         &[
-            &[0, 0],
-            &[0, 0x80, 0],
-            &[2],
-            &[0x7e, 1],
-            &[0x82, 0, 1],
-            &[2, 0x81, 0],
+            0x7f, 0x80, 0x80, 0x80, 0x80, 0x80, 0x80, 0x80, 0x80, 0x80, 1,
         ],
-        1000,
+        3,
+        true,
+        true,
+        false,
+    ),
+    (
+        &[
+            0x7f, 0x80, 0x80, 0x80, 0x80, 0x80, 0x80, 0x80, 0x80, 0x80, 0x7f,
+        ],
+        3,
+        false,
+        false,
+        true,
+    ),
+    (
+        &[
+            0x7f, 0x80, 0x80, 0x80, 0x80, 0x80, 0x80, 0x80, 0x80, 0x80, 0x80, 1,
+        ],
+        3,
+        false,
         false,
         false,
     ),
+    (&[0x7e, 0x80, 1], 3, false, false, false),
+    (&[0x7d, 5, 0x80, 1], 3, false, false, false),
+    (&[0x7d, 1, 2], 3, false, false, false),
 ];
 
 #[test]
 fn judged(rt: HostRuntime) {
-    for &(spellings, most, canonical, readable) in SPELLINGS {
-        for bytes in spellings {
-            let judged = (
-                is_canonical::<UnsignedItem>(bytes, most),
-                UnsignedCursor::over(bytes, most).is_ok(),
-            );
-            assert_eq!(rt; judged, (canonical, readable), "of {bytes:?}");
-        }
+    for &(bytes, most, canonical, unsigned, signed) in SPELLINGS {
+        assert!(rt;
+            is_canonical::<UnsignedItem>(bytes, most) == canonical,
+            "of {bytes:?}"
+        );
+        assert!(rt;
+            UnsignedCursor::over(bytes, most).is_ok() == unsigned,
+            "of {bytes:?}"
+        );
+        assert!(rt;
+            SignedCursor::over(bytes, most).is_ok() == signed,
+            "of {bytes:?}"
+        );
     }
-}
-
-#[test]
-fn judged_of_other_items(rt: HostRuntime) {
     assert!(rt; is_canonical::<SignedItem>(&[2, 0x7f, 0x7e, 0xc0, 0, 0xbf, 0x7f, 0, 1], 5));
     assert!(rt; is_canonical::<TextItem>(&[0x7f, 2, 0xc3, 0xa9, 0, 1, 0x7f, 0], 3));
     assert!(rt; TextCursor::over(&[0x7f, 1, 0xc3], 1).is_err());
@@ -214,10 +206,6 @@ fn read_items(rt: HostRuntime) {
     items.skip(1);
     assert!(rt; items.left() == 0);
     assert!(rt; items.again().next() == None);
-}
-
-#[test]
-fn read_numbers(rt: HostRuntime) {
     let mut numbers = SignedCursor::over(&[2, 0x7f, 0x7e, 0xc0, 0, 0xbf, 0x7f], 4).expect(
         &rt,
         "the numbers can be read",
@@ -230,19 +218,6 @@ fn read_numbers(rt: HostRuntime) {
 }
 
 #[test]
-fn read_words(rt: HostRuntime) {
-    let mut words = TextCursor::over(&[0x7f, 2, 0xc3, 0xa9, 0, 1, 0x7f, 0], 3).expect(
-        &rt,
-        "the texts can be read",
-    );
-    assert!(rt; words.left() == 3);
-    assert!(rt; words.again().next() == Some(Some("é")));
-    words.skip(1);
-    assert!(rt; words.next() == Some(None));
-    assert!(rt; words.next() == Some(Some("")));
-}
-
-#[test]
 fn repeated_numbers(rt: HostRuntime) {
     let mut numbers = UnsignedCursor::over(&[3, 5, 0x7e, 7, 0x80, 1, 0, 2], 7).expect(
         &rt,
@@ -251,72 +226,33 @@ fn repeated_numbers(rt: HostRuntime) {
     assert!(rt; numbers.next() == Some(Some(5)));
     assert!(rt; numbers.left() == 6);
     assert!(rt; numbers.like() == Some((Some(5), 2)));
+    assert!(rt; numbers.again().next_alike_within(4) == Some((Some(5), 2)));
     numbers.skip(2);
     assert!(rt; numbers.next() == Some(Some(7)));
     assert!(rt; numbers.like() == Some((Some(128), 1)));
-    assert!(rt; numbers.next() == Some(Some(128)));
+    assert!(rt; numbers.next_alike_within(4) == Some((Some(128), 1)));
     assert!(rt; numbers.again().next() == Some(None));
     numbers.skip(1);
     assert!(rt; numbers.next() == Some(None));
+    assert!(rt; numbers.next_alike_within(4) == None);
     assert!(rt; numbers.next() == None);
 }
 
 #[test]
 fn repeated_words(rt: HostRuntime) {
-    let mut words = TextCursor::over(&[3, 1, 0x61, 0, 1], 4).expect(&rt, "the texts can be read");
+    let mut words = TextCursor::over(&[0x7f, 2, 0xc3, 0xa9, 3, 1, 0x61, 0, 1, 0x7f, 0], 6).expect(
+        &rt,
+        "the texts can be read",
+    );
+    assert!(rt; words.left() == 6);
+    assert!(rt; words.again().next() == Some(Some("é")));
+    words.skip(1);
     assert!(rt; words.next() == Some(Some("a")));
-    assert!(rt; words.left() == 3);
     assert!(rt; words.again().next() == Some(Some("a")));
-    words.skip(2);
+    assert!(rt; words.next_alike_within(1) == Some((Some("a"), 1)));
+    assert!(rt; words.left() == 3);
+    words.skip(1);
     assert!(rt; words.next() == Some(None));
+    assert!(rt; words.next() == Some(Some("")));
     assert!(rt; words.next() == None);
-}
-
-// A literal run, and whether it has as many numbers as it says: unsigned ones, signed ones
-const LITERALS: &[(&[u8], bool, bool)] = &[
-    (&[0x7e, 0x80, 1, 1], true, true),
-    (&[0x7e, 1, 0x80, 0], false, false),
-    (&[0x7e, 0xc0, 0, 5], false, true),
-    (&[0x7e, 0xbf, 0x7f, 5], true, true),
-    (&[0x7e, 0xff, 0x7f, 5], true, false),
-    (
-        &[0x7f, 0x80, 0x80, 0x80, 0x80, 0x80, 0x80, 0x80, 0x80, 1],
-        true,
-        true,
-    ),
-    (
-        &[
-            0x7f, 0x80, 0x80, 0x80, 0x80, 0x80, 0x80, 0x80, 0x80, 0x80, 1,
-        ],
-        true,
-        false,
-    ),
-    (
-        &[
-            0x7f, 0x80, 0x80, 0x80, 0x80, 0x80, 0x80, 0x80, 0x80, 0x80, 0x7f,
-        ],
-        false,
-        true,
-    ),
-    (
-        &[
-            0x7f, 0x80, 0x80, 0x80, 0x80, 0x80, 0x80, 0x80, 0x80, 0x80, 0x80, 1,
-        ],
-        false,
-        false,
-    ),
-    (&[0x7e, 0x80, 1], false, false),
-    (&[0x7d, 5, 0x80, 1], false, false),
-    (&[0x7d, 1, 2], false, false),
-];
-
-#[test]
-fn skimmed(rt: HostRuntime) {
-    for &(bytes, unsigned, signed) in LITERALS {
-        let judged = (
-            UnsignedCursor::over(bytes, 3).is_ok(),
-            SignedCursor::over(bytes, 3).is_ok(),
-        );
-        assert_eq!(rt; judged, (unsigned, signed), "of {bytes:?}");
-    }
 }

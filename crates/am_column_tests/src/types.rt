@@ -1,138 +1,9 @@
-//! Each call once: what is built, lent, compared and copied is what was put in.
+//! Outside values: how many bytes an actor has, how ids and bytes are ordered, and what is taken over from others.
 use am_types::{
-    ActorFault, ActorId, Bytes, Change, Document, Entry, EntryRef, Hash, IdRef, Key, KeyRef, List,
-    Meta, ObjId, ObjRef, Op, OpId, RawValue, Row, Table, Text, Twin, compare_bytes, compare_ids,
-    same_bytes,
+    ActorFault, ActorId, Bytes, IdRef, List, Text, compare_bytes, compare_ids, same_bytes,
 };
-use std::alloc::{AllocError, Global};
 use std::cmp::Ordering;
-use std::process::Abort;
 use std::test::Fail;
-
-fn text(alloc: Global, s: &str) -> Result<Text, AllocError> {
-    let mut out = Text::new(alloc);
-    out.push_str(s)?;
-    Ok(out)
-}
-
-fn bytes(alloc: Global, s: &[u8]) -> Result<Bytes, AllocError> {
-    let mut out = Bytes::new(alloc);
-    out.push_slice(s)?;
-    Ok(out)
-}
-
-fn id(alloc: Global, counter: u64, actor: &[u8]) -> Result<OpId, ActorFault> {
-    let actor = ActorId::of(alloc, actor)?;
-    Ok(OpId { counter, actor })
-}
-
-// A list of one item.
-fn one<T: Drop>(alloc: Global, item: T) -> Result<List<T>, AllocError> {
-    let mut list = List::new(alloc);
-    list.push(item)?;
-    Ok(list)
-}
-
-fn operation(alloc: Global) -> Result<Op, ActorFault> {
-    let obj = ObjId::Made(id(alloc, 1, &[0xaa])?);
-    let key = Key::Elem(id(alloc, 2, &[0xaa])?);
-    let raw = bytes(alloc, b"x")?;
-    let preds = one(alloc, id(alloc, 3, &[0xbb])?)?;
-    let mark = Some(text(alloc, "bold")?);
-    Ok(Op {
-        obj,
-        key,
-        insert: true,
-        action: 1,
-        value: RawValue { kind: 6, raw },
-        preds,
-        expand: false,
-        mark,
-    })
-}
-
-fn change(alloc: Global) -> Result<Change, ActorFault> {
-    let deps = one(alloc, Hash([7; 32]))?;
-    let actor = ActorId::of(alloc, &[0xaa])?;
-    let message = text(alloc, "first")?;
-    let ops = one(alloc, operation(alloc)?)?;
-    let extra = bytes(alloc, &[1, 2])?;
-    Ok(Change {
-        deps,
-        actor,
-        seq: 1,
-        start: 4,
-        time: -5,
-        message,
-        ops,
-        extra,
-    })
-}
-
-fn row(alloc: Global) -> Result<Row, ActorFault> {
-    let id = id(alloc, 3, &[0xaa])?;
-    let op = operation(alloc)?;
-    Ok(Row {
-        obj: op.obj,
-        key: op.key,
-        id,
-        insert: op.insert,
-        action: op.action,
-        value: op.value,
-        succs: op.preds,
-        expand: op.expand,
-        mark: op.mark,
-    })
-}
-
-fn meta(alloc: Global) -> Result<Meta, ActorFault> {
-    let actor = ActorId::of(alloc, &[0xaa])?;
-    let message = text(alloc, "first")?;
-    let deps = one(alloc, 0)?;
-    let extra = bytes(alloc, &[1, 2])?;
-    Ok(Meta {
-        actor,
-        seq: 1,
-        max: 4,
-        time: -5,
-        message,
-        deps,
-        extra,
-    })
-}
-
-fn table(alloc: Global) -> Result<Table, ActorFault> {
-    let actors = one(alloc, ActorId::of(alloc, &[0xaa])?)?;
-    let heads = one(alloc, Hash([7; 32]))?;
-    let metas = one(alloc, meta(alloc)?)?;
-    let rows = one(alloc, row(alloc)?)?;
-    let suffix = Some(one(alloc, 0)?);
-    Ok(Table {
-        actors,
-        heads,
-        metas,
-        rows,
-        suffix,
-    })
-}
-
-fn document(alloc: Global) -> Result<Document, ActorFault> {
-    let obj = ObjId::Made(id(alloc, 1, &[0xaa])?);
-    let slot = Key::Elem(id(alloc, 2, &[0xaa])?);
-    let id = id(alloc, 3, &[0xaa])?;
-    let raw = bytes(alloc, &[10])?;
-    let entry = Entry {
-        obj,
-        slot,
-        id,
-        action: 1,
-        value: RawValue { kind: 8, raw },
-        total: 10,
-    };
-    Ok(Document {
-        entries: one(alloc, entry)?,
-    })
-}
 
 // How many bytes there are, and whether they are an actor.
 const LENGTHS: &[(usize, bool)] = &[(0, false), (1, true), (1024, true), (1025, false)];
@@ -157,18 +28,7 @@ const IDS: &[(u64, &[u8], u64, &[u8], Ordering)] = &[
     (2, b"a", 2, b"a", Ordering::Equal),
 ];
 
-#[test]
-fn ids_go_by_counter_then_actor(rt: HostRuntime) {
-    for &(counter, actor, other_counter, other_actor, order) in IDS {
-        let a = IdRef { counter, actor };
-        let b = IdRef {
-            counter: other_counter,
-            actor: other_actor,
-        };
-        assert_eq!(rt; compare_ids(a, b), order);
-    }
-}
-
+// Bytes, and how the first stand to the second.
 const BYTES: &[(&[u8], &[u8], Ordering)] = &[
     (b"", b"", Ordering::Equal),
     (b"a", b"ab", Ordering::Less),
@@ -192,67 +52,21 @@ const BYTES: &[(&[u8], &[u8], Ordering)] = &[
     ),
 ];
 
+// Ids go by counter, then actor; bytes by the first that differs.
 #[test]
-fn bytes_go_by_the_first_that_differs(rt: HostRuntime) {
+fn compares(rt: HostRuntime) {
+    for &(counter, actor, other_counter, other_actor, order) in IDS {
+        let a = IdRef { counter, actor };
+        let b = IdRef {
+            counter: other_counter,
+            actor: other_actor,
+        };
+        assert_eq!(rt; compare_ids(a, b), order);
+    }
     for &(a, b, order) in BYTES {
         assert_eq!(rt; compare_bytes(a, b), order);
         assert_eq!(rt; same_bytes(a, b), order.is_eq());
     }
-}
-
-fn is_copied<T: Twin + PartialEq + Drop>(alloc: Global, item: &T) -> Result<bool, AllocError> {
-    Ok(item.copy(alloc)? == *item)
-}
-
-fn change_is_copied(alloc: Global) -> Result<bool, ActorFault> {
-    let change = change(alloc)?;
-    Ok(is_copied(alloc, &change)?)
-}
-
-fn table_is_copied(alloc: Global) -> Result<bool, ActorFault> {
-    let table = table(alloc)?;
-    Ok(is_copied(alloc, &table)?)
-}
-
-fn document_is_copied(alloc: Global) -> Result<bool, ActorFault> {
-    let document = document(alloc)?;
-    Ok(is_copied(alloc, &document)?)
-}
-
-#[test]
-fn copies_equal_what_they_copy(rt: HostRuntime) -> Result<(), Fail> {
-    assert!(rt; change_is_copied(rt.alloc())?);
-    assert!(rt; table_is_copied(rt.alloc())?);
-    assert!(rt; document_is_copied(rt.alloc())?);
-    Ok(())
-}
-
-fn is_the_entry(rt: &impl Abort, entry: &EntryRef<'_>) {
-    match (entry.obj, entry.slot) {
-        (ObjRef::Made(obj), KeyRef::Elem(slot)) => {
-            assert!(rt; obj.counter == 1);
-            assert!(rt; obj.actor == b"\xaa".as_slice());
-            assert!(rt; slot.counter == 2);
-        }
-        _ => assert!(rt; false, "another place"),
-    }
-    assert!(rt; entry.id.counter == 3);
-    assert!(rt; (entry.action, entry.value.kind, entry.total) == (1, 8, 10));
-    assert!(rt; entry.value.raw == b"\x0a".as_slice());
-}
-
-fn lends_its_entries(rt: &impl Abort, document: &Document) {
-    assert!(rt; document.entries.len() == 1);
-    for i in 0..document.entries.len() {
-        is_the_entry(rt, &document.entry(i));
-    }
-}
-
-#[test]
-fn lends_what_it_has(rt: HostRuntime) -> Result<(), Fail> {
-    let document = document(rt.alloc())?;
-    lends_its_entries(&rt, &document);
-    Ok(())
 }
 
 #[test]
@@ -261,11 +75,11 @@ fn takes_over_what_is_owned(rt: HostRuntime) -> Result<(), Fail> {
     let numbers = List::from(vec![in alloc; 1u64, 2, 3]?);
     assert!(rt; numbers.len() == 3);
     let three = Bytes::from(vec![in alloc; 1u8, 2, 3]?);
-    assert!(rt; three == bytes(alloc, &[1, 2, 3])?);
-    let word = Text::from(format!(in alloc; "{}", "word")?);
-    assert!(rt; word == text(alloc, "word")?);
-    assert!(rt; (three.len(), word.len()) == (3, 4));
+    assert!(rt; three.len() == 3);
     assert!(rt; three == Bytes::copy_of(alloc, &[1, 2, 3])?);
+    let mut word = Text::from(format!(in alloc; "{}", "wo")?);
+    word.push_str("rd")?;
+    assert!(rt; word.len() == 4);
     assert!(rt; word == Text::copy_of(alloc, "word")?);
     assert!(rt; format!(in alloc; "{:?}", word)?.as_str() == "Text { text: \"word\" }");
     Ok(())

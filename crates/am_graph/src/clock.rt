@@ -140,8 +140,7 @@ fn reach_of(authors: &NumberedTexts, table: &[Reach], actor: &[u8]) -> Reach
     Reach { seq: 0, end: 0 }
 }
 
-/// In a valid set a clock of the ancestors of some heads covers an operation's id exactly where its change is one of
-/// these ancestors.
+/// In a valid set the ancestors of some heads cover an operation's id exactly where its change is one of them.
 pub fn covers_ancestors_alone()
     ensures { (C : List Member) → Valid C → (hs : List Hash) → (m : Member) → Contains C m → (x : Operation) → Contains (operations m.change) x → IsTrue (members_cover (ancestors C hs) x.id) ↔ Contains (ancestors C hs) m }
 {}

@@ -128,7 +128,7 @@ in_order C m c = Contains-permutation (order C) C m (IsPermutation-sym C (order 
 
 -- ---- ancestors
 
-pub of_ancestors : (C : List Member) (heads found_hashes : List Hash) → found_hashes ≡ sorted_by hash_cmp (hashes (ancestors C heads)) → filter (λ m. among hash_cmp found_hashes m.hash) C ≡ ancestors C heads
+of_ancestors : (C : List Member) (heads found_hashes : List Hash) → found_hashes ≡ sorted_by hash_cmp (hashes (ancestors C heads)) → filter (λ m. among hash_cmp found_hashes m.hash) C ≡ ancestors C heads
 of_ancestors C heads hs e =
     let A : List Member = ancestors C heads in
     let tests : (m : Member) → among hash_cmp hs m.hash ≡ holds A m.hash = λ m. ap (λ l. among hash_cmp l m.hash) e ∙ sym (list_any-IsPermutation (same hash_cmp m.hash) (hashes A) (sorted_by hash_cmp (hashes A)) (IsPermutation-sorted_by hash_cmp (hashes A))) in
