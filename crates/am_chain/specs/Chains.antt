@@ -6,9 +6,10 @@
 --                             changed by put, the ids of es are the target
 --     IsInserted nodes e target more start     with one more node, for e at the end, they are linked, and the ids along the
 --                             chain are the target
-use Rattle.std.specs.Prelude.{ℕ, zero, suc, ◌≡◌, ◌≢◌, ◌==◌, ◌<◌, ◌≤◌, ◌^◌, ◌++◌, List, [], ◌∷◌, length, map, Option, Some, None, Bool, true, slice_get, option_map, unwrap_or, ⊤}
+use Rattle.std.specs.Prelude.{ℕ, zero, suc, ◌≡◌, ◌≢◌, ◌==◌, ◌<◌, ◌≤◌, ◌++◌, List, [], ◌∷◌, length, map, Option, Some, None, Bool, true, slice_get, option_map, unwrap_or, ⊤}
 use Rattle.std.specs.List.{AllByRecursion, list_any}
 use Rattle.am_types.specs.declared.OpId.{OpId}
+use Rattle.am_types.specs.Limits.{most_operations}
 use Rattle.am_chain.specs.declared.node.Node.{Node}
 use Rattle.am_chain.specs.declared.chain.Chain.TheInside.{Inside}
 use Rattle.am_chain.specs.Sequences.{Sequence}
@@ -47,7 +48,7 @@ pub record IsChain (nodes : List Node) (first : Option ℕ) (es : List Element) 
   pub count : length es ≡ length nodes
   pub differ : IdsDiffer es
   pub all : (n : ℕ) → n < length nodes → has_node n es ≡ true
-  pub few : length nodes ≤ 2 ^ 22
+  pub few : length nodes ≤ most_operations
 
 abbrev pub IsLinked : List Node → Option ℕ → Type 0
 IsLinked nodes first = IsChain nodes first (spelled nodes first)

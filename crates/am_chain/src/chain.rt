@@ -1,9 +1,10 @@
 //! A list whose nodes are linked by their numbers.
-ghost use Rattle.std.specs.Prelude.{◌≡◌, ◌<◌, ◌^◌, ◌++◌, ◌∷◌, [], length, slice_get, OnOk, OnErr, IfOk, Some};
+ghost use Rattle.std.specs.Prelude.{◌≡◌, ◌<◌, ◌++◌, ◌∷◌, [], length, slice_get, OnOk, OnErr, IfOk, Some};
 ghost use Rattle.std.specs.List.{Contains, position_or_len};
 ghost use Rattle.am_types.specs.Elements.{put_at};
 ghost use Rattle.am_types.specs.declared.OpId.{OpId};
 ghost use Rattle.am_types.specs.Same.{same_id};
+ghost use Rattle.am_types.specs.Limits.{most_operations};
 ghost use Rattle.am_chain.specs.Passing.{put_passing};
 ghost use Rattle.am_chain.specs.Sequences.{IsNodeBelow, IsStanding, key_of_node};
 
@@ -51,7 +52,7 @@ impl Chain {
     pub fn insert(&mut self, after: Option<u32>, id: OpId) -> Result<u32, AllocError>
         requires standing { IsNodeBelow self.old.nodes id after }
         requires fresh { ¬ Contains self.old.nodes id }
-        requires room { length self.old.nodes < 2 ^ 22 }
+        requires room { length self.old.nodes < most_operations }
         ensures node { IfOk result (λ node. node ≡ length self.old.nodes) }
         ensures nodes { OnOk result (self.new.nodes ≡ self.old.nodes ++ id ∷ []) }
         ensures walk { OnOk result (self.new.walk ≡ put_passing (key_of_node self.old.nodes after) id self.old.walk) }
@@ -66,7 +67,7 @@ impl Chain {
     pub fn put_behind(&mut self, before: Option<u32>, id: OpId) -> Result<u32, AllocError>
         requires standing { IsStanding (length self.old.nodes) before }
         requires fresh { ¬ Contains self.old.nodes id }
-        requires room { length self.old.nodes < 2 ^ 22 }
+        requires room { length self.old.nodes < most_operations }
         ensures node { IfOk result (λ node. node ≡ length self.old.nodes) }
         ensures nodes { OnOk result (self.new.nodes ≡ self.old.nodes ++ id ∷ []) }
         ensures walk { OnOk result (self.new.walk ≡ put_at (key_of_node self.old.nodes before) id self.old.walk) }

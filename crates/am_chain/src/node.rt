@@ -1,9 +1,10 @@
 //! Nodes that are linked by their numbers, and the gaps between them.
-ghost use Rattle.std.specs.Prelude.{◌≡◌, ◌<◌, ◌^◌, ◌∷◌, List, length, IfOk, OnOk, OnErr};
+ghost use Rattle.std.specs.Prelude.{◌≡◌, ◌<◌, ◌∷◌, List, length, IfOk, OnOk, OnErr};
 ghost use Rattle.std.specs.List.{Contains};
 ghost use Rattle.am_types.specs.Elements.{put_at};
 ghost use Rattle.am_types.specs.declared.OpId.{OpId};
 ghost use Rattle.am_types.specs.Views.{id_of};
+ghost use Rattle.am_types.specs.Limits.{most_operations};
 ghost use Rattle.am_chain.specs.Chains.{IsGap, IsInserted, IsLinked, ids_of, node_ids, spelled};
 ghost use Rattle.am_chain.specs.Passing.{put_below, put_passing};
 ghost use Rattle.am_chain.specs.Sequences.{IsStanding, key_of_node};
@@ -67,7 +68,7 @@ pub fn put_in_gap(
     requires linked { IsLinked nodes.old.items first.old }
     requires gap { (target : List OpId) × IsGap nodes.old.items (spelled nodes.old.items first.old) gap.before gap.at (λ fs. id ∷ fs) target }
     requires fresh { ¬ Contains (node_ids nodes.old.items) id }
-    requires room { length nodes.old.items < 2 ^ 22 }
+    requires room { length nodes.old.items < most_operations }
     ensures linked { IsLinked nodes.new.items first.new }
     ensures node { IfOk result (λ node. node ≡ length nodes.old.items) }
     ensures put { OnOk result ((target : List OpId) → IsGap nodes.old.items (spelled nodes.old.items first.old) gap.before gap.at (λ fs. id ∷ fs) target

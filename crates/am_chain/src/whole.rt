@@ -1,8 +1,9 @@
 //! A chain of a whole list of insertions.
-ghost use Rattle.std.specs.Prelude.{◌≡◌, ◌≤◌, ◌^◌, [], IfOk, IsPermutation, List, length, map};
+ghost use Rattle.std.specs.Prelude.{◌≡◌, ◌≤◌, [], IfOk, IsPermutation, List, length, map};
 ghost use Rattle.am_types.specs.Elements.{elements};
 ghost use Rattle.am_types.specs.Operations.{OneOperationPerId, Operation};
 ghost use Rattle.am_types.specs.declared.ObjId.{ObjId};
+ghost use Rattle.am_types.specs.Limits.{most_operations};
 ghost use Rattle.am_chain.specs.Passing.{into};
 ghost use Rattle.am_chain.specs.Insertions.{AreInTurn, AreOperations, id_inserted};
 
@@ -24,7 +25,7 @@ impl Chain {
     /// they stand in the order of elements.
     pub fn of(alloc: Global, insertions: &[Insertion]) -> Result<Chain, AllocError>
         requires turn { AreInTurn [] insertions.now }
-        requires room { length insertions.now ≤ 2 ^ 22 }
+        requires room { length insertions.now ≤ most_operations }
         ensures nodes { IfOk result (λ chain. chain.nodes ≡ map id_inserted insertions.now) }
         ensures elements { IfOk result (λ chain. (A : List Operation) (o : ObjId) (xs : List Operation) → AreOperations [] insertions.now xs → OneOperationPerId (into o A) → IsPermutation (into o A) xs → chain.walk ≡ elements A o) }
     {

@@ -9,6 +9,7 @@ use Rattle.am_types.specs.declared.Hash.{Hash}
 use Rattle.am_types.specs.declared.Op.{Op}
 use Rattle.am_types.specs.declared.Change.{Change}
 use Rattle.am_types.specs.Order.{hash_cmp}
+use Rattle.am_types.specs.Limits.{counter_end, most_operations}
 use Rattle.am_fields.specs.Limits.{IsWithin, IsObjectWithin, IsKeyWithin}
 use Rattle.am_opcols.specs.Chains.{Chain}
 use Rattle.am_change.specs.Fronts.{Front}
@@ -53,10 +54,10 @@ pub record IsOpWithin (op : Op) : Type 0 where
 
 -- what Rust's types and the reader say of the parts isn't said again
 pub record IsFrontFine (r : FrontRef) (count : ℕ) (extra : List ℕ) : Type 0 where
-  pub few_deps : r.count ≤ 2 ^ 22
+  pub few_deps : r.count ≤ most_operations
   pub ascend : Chain hash_cmp (hashes_in r.count r.hashes.now)
   pub short_extra : length extra < 2 ^ 60
-  pub seq : (1 ≤ r.seq) × (r.seq < 2 ^ 53)
+  pub seq : (1 ≤ r.seq) × (r.seq < counter_end)
   pub start : 1 ≤ r.start
-  pub end : r.start + count ≤ 2 ^ 53
+  pub end : r.start + count ≤ counter_end
   pub time : (neg_ℤ (pos (2 ^ 62)) <ℤ r.time) × (r.time <ℤ pos (2 ^ 62))

@@ -1,5 +1,6 @@
 //! A change that is lent from the contents of its chunk.
 ghost use Rattle.std.specs.Prelude.{◌≡◌, length, IfOk, Err};
+ghost use Rattle.am_types.specs.Limits.{longest_actor};
 ghost use Rattle.am_change.specs.Judgement.{Judges};
 
 use crate::copying::change_in;
@@ -35,7 +36,7 @@ impl<'a> Model for ChangeRef<'a> {
     ghost invariant = { λ c. (length c.front.hashes.now ≡ 32 * c.front.count)
         × (c.message.now ≡ c.front.message.now)
         × (1 ≤ length c.front.actor.now)
-        × (length c.front.actor.now ≤ 1024)
+        × (length c.front.actor.now ≤ longest_actor)
         × AllByRecursion IsOpWithin c.ops };
 }
 

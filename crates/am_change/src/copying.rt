@@ -2,6 +2,7 @@
 ghost use Rattle.std.specs.Prelude.{◌≡◌, ◌≤◌, ◌*◌, ◌++◌, ◌∷◌, [], length, option_map, IfOk, OnOk};
 ghost use Rattle.std.specs.List.{AllByRecursion};
 ghost use Rattle.am_types.specs.Views.{id_of, object_of, key_of, value_of};
+ghost use Rattle.am_types.specs.Limits.{longest_actor};
 ghost use Rattle.am_fields.specs.Limits.{IsWithin, IsObjectWithin, IsKeyWithin};
 ghost use Rattle.am_opcols.specs.Rows.{head_with};
 ghost use Rattle.am_change.specs.Building.{hash_with, hashes_in, front_of, change_with, IsOpWithin};
@@ -58,7 +59,7 @@ fn hashes_of(alloc: Global, bytes: &[u8], count: u64) -> Result<List<Hash>, Allo
 // The actor, owned, which shares its bytes with those that came before.
 fn shared_in(alloc: Global, actors: &mut SharedActors, bytes: &[u8]) -> Result<ActorId, AllocError>
     requires some { 1 ≤ length bytes.now }
-    requires few { length bytes.now ≤ 1024 }
+    requires few { length bytes.now ≤ longest_actor }
     ensures { IfOk result (λ actor. actor ≡ bytes.now) }
 {
     match actors.of(alloc, bytes) {
@@ -195,7 +196,7 @@ pub fn change_in(
     requires hashes { length front.now.hashes.now ≡ 32 * front.now.count }
     requires message { message.now ≡ front.now.message.now }
     requires some { 1 ≤ length front.now.actor.now }
-    requires few { length front.now.actor.now ≤ 1024 }
+    requires few { length front.now.actor.now ≤ longest_actor }
     requires within { AllByRecursion IsOpWithin ops.old }
     ensures { IfOk result (λ c. c ≡ change_with (front_of front.now) ops.old extra.now) }
 {

@@ -5,6 +5,7 @@ ghost use Rattle.std.specs.declared.cmp.Ordering.TheVariants.{Less};
 ghost use Rattle.am_types.specs.declared.Op.{Op as AnOp};
 ghost use Rattle.am_types.specs.Order.{bytes_cmp, hash_cmp};
 ghost use Rattle.am_types.specs.Fine.{Fine, FineOp, pred_count};
+ghost use Rattle.am_types.specs.Limits.{counter_end, longest_actor, most_operations};
 ghost use Rattle.am_opcols.specs.Chains.{Chain};
 ghost use Rattle.am_change.specs.Building.{hashes_in, front_of, change_with, IsFrontFine};
 
@@ -62,8 +63,8 @@ fn are_fine_ops(ops: &OpCursor<'_>) -> bool
 
 // Whether the numbers of a change with so many operations are within their limits.
 fn are_good(front: &FrontRef<'_>, count: u64) -> bool
-    requires { count ≤ 2 ^ 22 }
-    ensures { IsTrue result ↔ ((1 ≤ front.now.seq) × (front.now.seq < 2 ^ 53) × (1 ≤ front.now.start) × (front.now.start + count ≤ 2 ^ 53)
+    requires { count ≤ most_operations }
+    ensures { IsTrue result ↔ ((1 ≤ front.now.seq) × (front.now.seq < counter_end) × (1 ≤ front.now.start) × (front.now.start + count ≤ counter_end)
         × (neg_ℤ (pos (2 ^ 62)) <ℤ front.now.time) × (front.now.time <ℤ pos (2 ^ 62))) }
 {
     front.seq >= 1
@@ -76,7 +77,7 @@ fn are_good(front: &FrontRef<'_>, count: u64) -> bool
 
 // Whether a change may have so many dependencies.
 pub fn are_few(count: u64) -> bool
-    ensures { IsTrue result ↔ (count ≤ 2 ^ 22) }
+    ensures { IsTrue result ↔ (count ≤ most_operations) }
 {
     count <= MOST_OPERATIONS
 }
@@ -91,7 +92,7 @@ pub fn is_short(bytes: &[u8]) -> bool
 // Whether what stands beside the operations of a change, of which there are so many, passes each test.
 fn passes(front: &FrontRef<'_>, count: u64, extra: &[u8]) -> bool
     requires hashes { length front.now.hashes.now ≡ 32 * front.now.count }
-    requires few { count ≤ 2 ^ 22 }
+    requires few { count ≤ most_operations }
     ensures { IsTrue result ↔ IsFrontFine front.now count extra.now }
 {
     are_few(front.count)
@@ -105,9 +106,9 @@ pub fn is_fine_beside(front: &FrontRef<'_>, message: &str, count: u64, extra: &[
     requires hashes { length front.now.hashes.now ≡ 32 * front.now.count }
     requires message { message.now ≡ front.now.message.now }
     requires some { 1 ≤ length front.now.actor.now }
-    requires short { length front.now.actor.now ≤ 1024 }
-    requires few { count ≤ 2 ^ 22 }
-    ensures fine { IsTrue result → (ops : List AnOp) → length ops ≡ count → pred_count ops ≤ 2 ^ 22 → All FineOp ops → Fine (change_with (front_of front.now) ops extra.now) }
+    requires short { length front.now.actor.now ≤ longest_actor }
+    requires few { count ≤ most_operations }
+    ensures fine { IsTrue result → (ops : List AnOp) → length ops ≡ count → pred_count ops ≤ most_operations → All FineOp ops → Fine (change_with (front_of front.now) ops extra.now) }
     ensures only { (ops : List AnOp) → length ops ≡ count → Fine (change_with (front_of front.now) ops extra.now) → IsTrue result }
 {
     slice_known(front.hashes);
@@ -122,9 +123,9 @@ pub fn are_fine(front: &FrontRef<'_>, message: &str, ops: &OpCursor<'_>, extra: 
     requires hashes { length front.now.hashes.now ≡ 32 * front.now.count }
     requires message { message.now ≡ front.now.message.now }
     requires some { 1 ≤ length front.now.actor.now }
-    requires short { length front.now.actor.now ≤ 1024 }
-    requires few { length ops.now ≤ 2 ^ 22 }
-    requires few_preds { pred_count ops.now ≤ 2 ^ 22 }
+    requires short { length front.now.actor.now ≤ longest_actor }
+    requires few { length ops.now ≤ most_operations }
+    requires few_preds { pred_count ops.now ≤ most_operations }
     ensures { IsTrue result ↔ Fine (change_with (front_of front.now) ops.now extra.now) }
 {
     if !is_fine_beside(front, message, ops.left(), extra) {

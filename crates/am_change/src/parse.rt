@@ -2,6 +2,7 @@
 ghost use Rattle.std.specs.Prelude.{◌≡◌, ◌<◌, ◌≤◌, ◌^◌, ◌*◌, ◌++◌, ◌∷◌, ◌⊎◌, ◌↔◌, length, IsTrue, IfOk, IfSome, IsSomeAnd};
 ghost use Rattle.am_types.specs.declared.Change.{Change};
 ghost use Rattle.am_types.specs.Fine.{Fine};
+ghost use Rattle.am_types.specs.Limits.{longest_actor};
 ghost use Rattle.am_colmeta.specs.Metadata.{listing, body, Ascend};
 ghost use Rattle.am_colmeta.specs.Judgement.{AreKnown};
 ghost use Rattle.am_opcols.specs.Columns.{op_specifications, SpellsOps};
@@ -61,7 +62,7 @@ pub fn behind_front<'a>(front: &FrontRef<'a>, rest: &'a [u8]) -> Option<Behind<'
     ensures joined { IfSome result (λ r. rest.now ≡ body r.columns ++ r.extra.now) }
     ensures message { IfSome result (λ r. r.message.now ≡ front.now.message.now) }
     ensures some { IfSome result (λ r. 1 ≤ length front.now.actor.now) }
-    ensures few { IfSome result (λ r. length front.now.actor.now ≤ 1024) }
+    ensures few { IfSome result (λ r. length front.now.actor.now ≤ longest_actor) }
     ensures only { (c : Change) → Fine c → length (contents c) < 2 ^ 64 → front_of front.now ≡ front_in c → rest.now ≡ body (written_columns c.actor c.ops) ++ c.extra
         → IsSomeAnd result (λ r. (r.ops ≡ c.ops) × (r.extra.now ≡ c.extra) × (r.columns ≡ written_columns c.actor c.ops)) }
 {

@@ -25,7 +25,7 @@ use Rattle.am_types.specs.Operations.{Operation, operations, all_operations, slo
 use Rattle.am_types.specs.Fine.{pred_count}
 use Rattle.am_types.specs.Members.{Member, changes, holds}
 use Rattle.am_types.specs.Ancestors.{ancestors}
-use Rattle.am_types.specs.Limits.{above, first_some}
+use Rattle.am_types.specs.Totals.{above, first_some}
 use Rattle.am_types.specs.Verdicts.{has_seq, seq_clash, seq_gap, start_low, bad_reference, limit_passed, full, verdict}
 use Rattle.am_types.specs.References.{takes, object_takes, element_known, pred_known, has_good_references, first_bad}
 use Rattle.am_laws.proofs.VerdictLaws.{fits_by, fits_from}

@@ -1,9 +1,10 @@
 //! Documents whose rows are lent from changes.
-ghost use Rattle.std.specs.Prelude.{◌≡◌, ◌≤◌, ◌^◌, ◌++◌, ◌∷◌, [], List, Some, None, length, map, IfOk, IfSome, IfNone, OnOk};
+ghost use Rattle.std.specs.Prelude.{◌≡◌, ◌≤◌, ◌++◌, ◌∷◌, [], List, Some, None, length, map, IfOk, IfSome, IfNone, OnOk};
 ghost use Rattle.std.specs.List.{AllByRecursion};
 ghost use Rattle.am_types.specs.declared.OpId.{OpId};
 ghost use Rattle.am_types.specs.Rows.{row_of};
 ghost use Rattle.am_types.specs.Views.{id_of};
+ghost use Rattle.am_types.specs.Limits.{most_operations};
 ghost use Rattle.am_colmeta.specs.Metadata.{metadata, listing, body as columns_body};
 ghost use Rattle.am_doccols.specs.Columns.{written_rows};
 ghost use Rattle.am_doccols.specs.Conditions.{IsRowFor, HasRoom, succ_count};
@@ -79,8 +80,8 @@ fn push_row<'a>(
 fn push_rows(alloc: Global, writer: &mut RowWriter, rows: &LentRows<'_>) -> Result<(), AllocError>
     requires empty { writer.old.1 ≡ Some [] }
     requires all { AllByRecursion (IsRowFor writer.old.0) rows.now }
-    requires few { length rows.now ≤ 2 ^ 22 }
-    requires few_succs { succ_count rows.now ≤ 2 ^ 22 }
+    requires few { length rows.now ≤ most_operations }
+    requires few_succs { succ_count rows.now ≤ most_operations }
     ensures actors { OnOk result (writer.new.0 ≡ writer.old.0) }
     ensures rows { OnOk result (writer.new.1 ≡ Some rows.now) }
 {
@@ -98,8 +99,8 @@ fn lent_text(
     rows: &LentRows<'_>,
 ) -> Result<(Bytes, Bytes), AllocError>
     requires all { AllByRecursion (IsRowFor actors.now) rows.now }
-    requires few { length rows.now ≤ 2 ^ 22 }
-    requires few_succs { succ_count rows.now ≤ 2 ^ 22 }
+    requires few { length rows.now ≤ most_operations }
+    requires few_succs { succ_count rows.now ≤ most_operations }
     ensures metadata { IfOk result (λ text. text.0 ≡ metadata (listing (written_rows actors.now rows.now))) }
     ensures body { IfOk result (λ text. text.1 ≡ columns_body (written_rows actors.now rows.now)) }
 {

@@ -7,10 +7,11 @@
 -- In rows a null among the metadata of values reads as the null value, and a null among the lengths of groups as 0. In
 -- change rows a null time reads as 0, a null message as the empty one, and null metadata of extra bytes as none. All
 -- other numbers of change rows stand. (How a null reads is a choice of amstore's profile, and so are the limits.)
-use Rattle.std.specs.Prelude.{ℕ, ◌≤◌, ◌^◌, List, [], ◌∷◌, ◌++◌, length, map, Some}
+use Rattle.std.specs.Prelude.{ℕ, ◌≤◌, List, [], ◌∷◌, ◌++◌, length, map, Some}
 use Rattle.std.specs.List.{AllByRecursion}
 use Rattle.am_types.specs.declared.Row.{Row}
 use Rattle.am_types.specs.declared.Meta.{Meta}
+use Rattle.am_types.specs.Limits.{counter_end, greatest_action, most_changes, most_operations}
 use Rattle.am_values.specs.Columns.{AllGood}
 use Rattle.am_colmeta.specs.Metadata.{not_empty}
 use Rattle.am_fields.specs.Columns.{Column, Actors, Deltas, Flags, RareFlags, Texts, Counts, Times, Messages, SpellsColumns, spellings}
@@ -37,11 +38,11 @@ pub record AreRowsWithin (rows : List Row) : Type 0 where
   pub objects : AllByRecursion IsObjectWithin (map (λ r. r.obj) rows)
   pub keys : AllByRecursion IsKeyWithin (map (λ r. r.key) rows)
   pub ids : AllByRecursion IsWithin (map (λ r. r.id) rows)
-  pub actions : AllByRecursion (λ a. a ≤ 7) (map (λ r. r.action) rows)
+  pub actions : AllByRecursion (λ a. a ≤ greatest_action) (map (λ r. r.action) rows)
   pub values : AllGood (map (λ r. r.value) rows)
   pub succs : AllByRecursion IsWithin (flat (map (λ r. r.succs) rows))
-  pub few : length rows ≤ 2 ^ 22
-  pub few_succs : length (flat (map (λ r. r.succs) rows)) ≤ 2 ^ 22
+  pub few : length rows ≤ most_operations
+  pub few_succs : length (flat (map (λ r. r.succs) rows)) ≤ most_operations
 
 pub record SpellsRows (actors : List (List ℕ)) (columns : List (ℕ × List ℕ)) (rows : List Row) : Type 0 where
   pub spelled : SpellsColumns actors columns (row_columns rows)
@@ -61,13 +62,13 @@ meta_columns metas =
 -- a change row.
 pub record AreMetasWithin (metas : List Meta) : Type 0 where
   pub authors : AllByRecursion IsShortActor (map (λ m. m.actor) metas)
-  pub seqs : AllByRecursion (IsBelow 1 (2 ^ 53)) (map (λ m. m.seq) metas)
-  pub maxes : AllByRecursion (IsBelow 0 (2 ^ 53)) (map (λ m. m.max) metas)
+  pub seqs : AllByRecursion (IsBelow 1 counter_end) (map (λ m. m.seq) metas)
+  pub maxes : AllByRecursion (IsBelow 0 counter_end) (map (λ m. m.max) metas)
   pub times : AllByRecursion IsTime (map (λ m. m.time) metas)
   pub deps : AllByRecursion (IsBelow 0 (length metas)) (flat (map (λ m. m.deps) metas))
   pub extras : AllByRecursion IsShortExtra (map (λ m. m.extra) metas)
-  pub few : length metas ≤ 2 ^ 20
-  pub few_deps : length (flat (map (λ m. m.deps) metas)) ≤ 2 ^ 22
+  pub few : length metas ≤ most_changes
+  pub few_deps : length (flat (map (λ m. m.deps) metas)) ≤ most_operations
 
 pub record SpellsMetas (actors : List (List ℕ)) (columns : List (ℕ × List ℕ)) (metas : List Meta) : Type 0 where
   pub spelled : SpellsColumns actors columns (meta_columns metas)

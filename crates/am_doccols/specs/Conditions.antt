@@ -9,13 +9,14 @@
 --     succ_count rows, dep_count metas     how many successors, or dependencies, there are in all
 --     HasRoom, HasMetaRoom       one more may be written behind those that were
 -- The bounds are limits of amstore's profile.
-use Rattle.std.specs.Prelude.{ℕ, ◌+◌, ◌<◌, ◌≤◌, ◌^◌, List, length, map, IfSome, IsUtf8}
+use Rattle.std.specs.Prelude.{ℕ, ◌+◌, ◌<◌, ◌≤◌, List, length, map, IfSome, IsUtf8}
 use Rattle.std.specs.List.{AllByRecursion}
 use Rattle.am_types.specs.declared.OpId.{OpId}
 use Rattle.am_types.specs.declared.Row.{Row}
 use Rattle.am_types.specs.declared.Meta.{Meta}
 use Rattle.am_types.specs.Fine.{IsId, IsObject, IsKey}
 use Rattle.am_types.specs.Values.{Good}
+use Rattle.am_types.specs.Limits.{counter_end, greatest_action, most_changes, most_operations}
 use Rattle.am_fields.specs.Actors.{IsListed, IfListed}
 use Rattle.am_fields.specs.Extras.{extra_value}
 use Rattle.am_fields.specs.Layout.{object_actor, key_actor, flat}
@@ -36,18 +37,18 @@ pub record IsRowFor (actors : List (List ℕ)) (row : Row) : Type 0 where
   pub succs : AllByRecursion (IsIdFor actors) row.succs
 
 abbrev pub IsPlace : ℕ → Type 0
-IsPlace i = i < 2 ^ 20
+IsPlace i = i < most_changes
 
 pub record IsMetaFor (actors : List (List ℕ)) (meta : Meta) : Type 0 where
   pub actor : IsListed actors meta.actor
-  pub seq : meta.seq < 2 ^ 53
-  pub max : meta.max < 2 ^ 53
+  pub seq : meta.seq < counter_end
+  pub max : meta.max < counter_end
   pub time : IsTime meta.time
   pub deps : AllByRecursion IsPlace meta.deps
   pub extra : Good (extra_value meta.extra)
 
 pub record IsReadable (row : Row) : Type 0 where
-  pub action : row.action ≤ 7
+  pub action : row.action ≤ greatest_action
   pub mark : IfSome row.mark IsUtf8
 
 pub record IsReadableMeta (count : ℕ) (meta : Meta) : Type 0 where
@@ -63,9 +64,9 @@ abbrev pub dep_count : List Meta → ℕ
 dep_count metas = length (flat (map (λ m. m.deps) metas))
 
 pub record HasRoom (rows : List Row) (succs : List OpId) : Type 0 where
-  pub few : length rows < 2 ^ 22
-  pub few_succs : succ_count rows + length succs ≤ 2 ^ 22
+  pub few : length rows < most_operations
+  pub few_succs : succ_count rows + length succs ≤ most_operations
 
 pub record HasMetaRoom (metas : List Meta) (deps : List ℕ) : Type 0 where
-  pub few : length metas < 2 ^ 20
-  pub few_deps : dep_count metas + length deps ≤ 2 ^ 22
+  pub few : length metas < most_changes
+  pub few_deps : dep_count metas + length deps ≤ most_operations

@@ -3,10 +3,11 @@
 --     Takes actors rows ..          the writers hold the rows too, behind what they held
 --     HasRoomFor rows more          so many more may be written behind those that were
 --     HasMetaRoomFor metas more     the same of change rows
-use Rattle.std.specs.Prelude.{◌≡◌, ℕ, ◌+◌, ◌≤◌, ◌^◌, List, ◌++◌, length, map, Option, Some, IfSome}
+use Rattle.std.specs.Prelude.{◌≡◌, ℕ, ◌+◌, ◌≤◌, List, ◌++◌, length, map, Option, Some, IfSome}
 use Rattle.am_types.specs.declared.OpId.{OpId}
 use Rattle.am_types.specs.declared.Row.{Row}
 use Rattle.am_types.specs.declared.Meta.{Meta}
+use Rattle.am_types.specs.Limits.{most_changes, most_operations}
 use Rattle.am_fields.specs.Layout.{flat}
 use Rattle.am_fields.specs.Held.{FieldLists, FieldsHeld, IdsHeld}
 use Rattle.am_fields.specs.declared.field_writer.FieldWriter.{FieldWriter}
@@ -41,9 +42,9 @@ pub record AreOpenFor (n m : ℕ) (f : FieldWriter) (i : IdWriter) (l : Option (
   pub succ_counters : IsOpenFor m s.counters
 
 pub record HasRoomFor (rows more : List Row) : Type 0 where
-  pub few : length rows + length more ≤ 2 ^ 22
-  pub few_succs : succ_count rows + succ_count more ≤ 2 ^ 22
+  pub few : length rows + length more ≤ most_operations
+  pub few_succs : succ_count rows + succ_count more ≤ most_operations
 
 pub record HasMetaRoomFor (metas more : List Meta) : Type 0 where
-  pub few : length metas + length more ≤ 2 ^ 20
-  pub few_deps : dep_count metas + dep_count more ≤ 2 ^ 22
+  pub few : length metas + length more ≤ most_changes
+  pub few_deps : dep_count metas + dep_count more ≤ most_operations

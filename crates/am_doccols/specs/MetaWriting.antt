@@ -3,10 +3,11 @@
 --     MetasHeld actors metas w          the writers hold these change rows, each of which may be written
 --     metas_written failed ..           the change rows that were pushed, as long as memory was had
 --     IsWritingMetas failed ..          while memory is had, the writers hold just those
-use Rattle.std.specs.Prelude.{◌≡◌, ℕ, pos, ◌≤◌, ◌^◌, List, [], length, map, Option, Some, None, option_map, Bool, true, false}
+use Rattle.std.specs.Prelude.{◌≡◌, ℕ, pos, ◌≤◌, List, [], length, map, Option, Some, None, option_map, Bool, true, false}
 use Rattle.std.specs.List.{AllByRecursion}
 use Rattle.am_types.specs.declared.Meta.{Meta}
 use Rattle.am_types.specs.Documents.{unless_empty}
+use Rattle.am_types.specs.Limits.{most_changes, most_operations}
 use Rattle.am_fields.specs.Columns.{place_of}
 use Rattle.am_fields.specs.Filling.{read_as}
 use Rattle.am_fields.specs.Groups.{counts, parts}
@@ -38,8 +39,8 @@ pub record MetasHeld (actors : List (List ℕ)) (metas : List Meta) (w : MetaCol
   pub deps_are : w.deps ≡ Some (map whole (flat (map (λ m. m.deps) metas)))
   pub extra_are : w.extra ≡ Some (map extra_value (map (λ m. m.extra) metas))
   pub all : AllByRecursion (IsMetaFor actors) metas
-  pub few : length metas ≤ 2 ^ 20
-  pub few_deps : dep_count metas ≤ 2 ^ 22
+  pub few : length metas ≤ most_changes
+  pub few_deps : dep_count metas ≤ most_operations
 
 abbrev pub metas_written : Bool → List (List ℕ) → MetaColumns → Option (List Meta)
 metas_written true actors w = None

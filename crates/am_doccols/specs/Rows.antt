@@ -5,7 +5,7 @@
 --     AreEven c                    the columns c have one item a row each, and the rows at most 2^22 successors together
 --     row_of r                     what a lent row stands for
 --     blank                        a row that says nothing
-use Rattle.std.specs.Prelude.{ℕ, ◌≡◌, ◌≤◌, ◌^◌, List, [], length, map, Option, None, option_map, Bool, false}
+use Rattle.std.specs.Prelude.{ℕ, ◌≡◌, ◌≤◌, List, [], length, map, Option, None, option_map, Bool, false}
 use Rattle.std.specs.List.{zip}
 use Rattle.am_types.specs.declared.OpId.{OpId}
 use Rattle.am_types.specs.declared.ObjId.{ObjId}
@@ -15,6 +15,7 @@ use Rattle.am_types.specs.declared.Key.TheVariants.{Head}
 use Rattle.am_types.specs.declared.RawValue.{RawValue}
 use Rattle.am_types.specs.declared.Row.{Row}
 use Rattle.am_types.specs.Views.{id_of, object_of, key_of, value_of}
+use Rattle.am_types.specs.Limits.{most_operations}
 use Rattle.am_fields.specs.Layout.{flat}
 use Rattle.am_doccols.specs.declared.row.RowRef.{RowRef}
 use Rattle.am_doccols.specs.declared.row_columns.RowColumns.{RowColumns}
@@ -52,7 +53,7 @@ AreEven c =
     × (length c.succs ≡ length c.actions)
     × (length c.expands ≡ length c.actions)
     × (length c.marks ≡ length c.actions)
-    × (length (flat c.succs) ≤ 2 ^ 22)
+    × (length (flat c.succs) ≤ most_operations)
 
 abbrev pub row_of : RowRef → Row
 row_of r = record {

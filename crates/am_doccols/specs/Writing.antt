@@ -3,9 +3,10 @@
 --     RowsHeld actors rows ..           the writers hold these rows, each of which may be written
 --     rows_written failed ..            the rows that were pushed, as long as memory was had
 --     IsWritingRows failed ..           while memory is had, the writers hold just those rows
-use Rattle.std.specs.Prelude.{◌≡◌, ℕ, ◌≤◌, ◌^◌, List, length, map, Option, Some, None, Bool, true, false}
+use Rattle.std.specs.Prelude.{◌≡◌, ℕ, ◌≤◌, List, length, map, Option, Some, None, Bool, true, false}
 use Rattle.std.specs.List.{AllByRecursion}
 use Rattle.am_types.specs.declared.Row.{Row}
+use Rattle.am_types.specs.Limits.{most_operations}
 use Rattle.am_fields.specs.Layout.{flat}
 use Rattle.am_fields.specs.declared.field_writer.FieldWriter.{FieldWriter}
 use Rattle.am_fields.specs.declared.id_writer.IdWriter.{IdWriter}
@@ -30,8 +31,8 @@ pub record RowsHeld (actors : List (List ℕ)) (rows : List Row) (fields : Field
   pub lengths_are : lengths ≡ Some (map Some (map length (map (λ r. r.succs) rows)))
   pub succs_are : IdsHeld actors (flat (map (λ r. r.succs) rows)) succs
   pub all : AllByRecursion (IsRowFor actors) rows
-  pub few : length rows ≤ 2 ^ 22
-  pub few_succs : succ_count rows ≤ 2 ^ 22
+  pub few : length rows ≤ most_operations
+  pub few_succs : succ_count rows ≤ most_operations
 
 abbrev pub rows_written : Bool → List (List ℕ) → FieldWriter → IdWriter → Option (List (Option ℕ)) → IdWriter → Option (List Row)
 rows_written true actors fields ids lengths succs = None

@@ -2,6 +2,7 @@
 ghost use Rattle.std.specs.Prelude.{◌≡◌, ◌+◌, ◌≤◌, ◌<◌, ◌++◌, ◌^◌, Some, map, length, option_map, IfSome, OnOk};
 ghost use Rattle.std.specs.List.{AllByRecursion};
 ghost use Rattle.am_types.specs.Documents.{unless_empty};
+ghost use Rattle.am_types.specs.Limits.{counter_end};
 ghost use Rattle.am_fields.specs.Layout.{whole};
 ghost use Rattle.am_doccols.specs.Conditions.{IsPlace};
 
@@ -26,7 +27,7 @@ pub struct MetaColumns {
 
 // The cell of a number.
 pub fn number_in(number: u64) -> Option<i64>
-    requires { number < 2 ^ 53 }
+    requires { number < counter_end }
     ensures { result ≡ whole number }
 {
     Some(number as i64)

@@ -1,5 +1,5 @@
 -- Ids, objects and keys are read of the places and cells that they have, and of no others.
-use Rattle.std.proofs.Common.{◌≡◌, ℕ, zero, suc, ◌<◌, ◌≤◌, ◌^◌, List, length, Option, Some, None, Bool, true, false, cond, refl, arith, sym, ap, ◌∙◌, subst, slice_get}
+use Rattle.std.proofs.Common.{◌≡◌, ℕ, zero, suc, ◌<◌, ◌≤◌, List, length, Option, Some, None, Bool, true, false, cond, refl, arith, sym, ap, ◌∙◌, subst, slice_get}
 use Rattle.std.specs.Prelude.{IsSome, ℤ, pos, negsuc, option_and_then}
 use Rattle.std.specs.Option.{option_map}
 use Rattle.std.proofs.lemmas.Bool.Decides.{nat_tests}
@@ -9,6 +9,7 @@ use Rattle.am_types.specs.declared.Key.{Key}
 use Rattle.am_types.specs.declared.ObjId.TheVariants.{Root, Made}
 use Rattle.am_types.specs.declared.Key.TheVariants.{Head, Elem}
 use Rattle.am_types.specs.declared.Key.TheVariants as types
+use Rattle.am_types.specs.Limits.{counter_end, longest_actor}
 use Rattle.am_fields.specs.Layout.{object_actor, object_counter, key_actor, key_counter, key_string, id_actor, id_counter}
 use Rattle.am_fields.specs.Limits.{IsWithin, IsObjectWithin, IsKeyWithin}
 use Rattle.am_fields.specs.Reading.{Rows, IsReading}
@@ -17,10 +18,10 @@ use Rattle.am_fields.specs.Fields.{is_within, id_with, id_from, id_at, object_at
 id_of : ℕ → List ℕ → OpId
 id_of counter actor = record { counter = counter; actor = actor }
 
-within_limits : (counter : ℕ) (actor : List ℕ) → is_within counter actor ≡ true → (1 ≤ counter) × (counter < 2 ^ 53) × (1 ≤ length actor) × (length actor ≤ 1024)
+within_limits : (counter : ℕ) (actor : List ℕ) → is_within counter actor ≡ true → (1 ≤ counter) × (counter < counter_end) × (1 ≤ length actor) × (length actor ≤ longest_actor)
 within_limits counter actor e = (grind (arith, nat_tests), grind (arith, nat_tests), grind (arith, nat_tests), grind (arith, nat_tests))
 
-limits_within : (counter : ℕ) (actor : List ℕ) → 1 ≤ counter → counter < 2 ^ 53 → 1 ≤ length actor → length actor ≤ 1024 → is_within counter actor ≡ true
+limits_within : (counter : ℕ) (actor : List ℕ) → 1 ≤ counter → counter < counter_end → 1 ≤ length actor → length actor ≤ longest_actor → is_within counter actor ≡ true
 limits_within counter actor a b c d = grind (arith, nat_tests)
 
 -- what an id was made of

@@ -1,7 +1,8 @@
 //! Whether what the operations of a change name is there.
-ghost use Rattle.std.specs.Prelude.{◌≡◌, ◌+◌, ◌<◌, ◌≤◌, ◌^◌, ℕ, length, option_map, IfSome, IfNone};
+ghost use Rattle.std.specs.Prelude.{◌≡◌, ◌+◌, ◌<◌, ◌≤◌, ℕ, length, option_map, IfSome, IfNone};
 ghost use Rattle.am_types.specs.Operations.{slot};
 ghost use Rattle.am_types.specs.Views.{id_of, object_of};
+ghost use Rattle.am_types.specs.Limits.{counter_end};
 ghost use Rattle.am_fits.specs.Shown.{slot_shown, fact_shown};
 ghost use Rattle.am_fits.specs.Told.{told, own_fact, own, object_by, element_by, preds_by, good_by, gives_to, IsGoodAt, IsFirstBad};
 
@@ -14,7 +15,7 @@ pub(crate) fn first_bad<'a, C: ReadChange>(
     ancestors: &mut Ancestors<'a>,
     change: &'a C,
 ) -> Option<u64>
-    requires { (C.change change.now).start + length (C.change change.now).ops ≤ 2 ^ 53 }
+    requires { (C.change change.now).start + length (C.change change.now).ops ≤ counter_end }
     ensures found { IfSome result (IsFirstBad ancestors.old.clock ancestors.old.facts (C.change change.now)) }
     ensures none { IfNone result ((k : ℕ) → k < length (C.change change.now).ops → IsGoodAt ancestors.old.clock ancestors.old.facts (C.change change.now) k) }
 {
@@ -34,7 +35,7 @@ fn is_good<'a, C: ReadChange>(
     place: usize,
     op: &'a C::Op,
 ) -> bool
-    requires { (C.change change.now).start + place < 2 ^ 53 }
+    requires { (C.change change.now).start + place < counter_end }
     ensures same { ancestors.new ≡ ancestors.old }
     ensures good { result ≡ good_by (told ancestors.old.clock ancestors.old.facts (C.change change.now) place) (own (C.change change.now) place (C.Op.op op.now)) }
 {
@@ -97,7 +98,7 @@ fn preds_are_known<'a, C: ReadChange>(
     place: usize,
     op: &'a C::Op,
 ) -> bool
-    requires { (C.change change.now).start + place < 2 ^ 53 }
+    requires { (C.change change.now).start + place < counter_end }
     ensures same { ancestors.new ≡ ancestors.old }
     ensures known { result ≡ preds_by (told ancestors.old.clock ancestors.old.facts (C.change change.now) place) (C.Op.op op.now).obj (slot (own (C.change change.now) place (C.Op.op op.now))) (C.Op.op op.now).preds }
 {

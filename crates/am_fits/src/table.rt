@@ -1,8 +1,9 @@
 //! What an index keeps of operations: small keys in place of ids and names.
-ghost use Rattle.std.specs.Prelude.{◌≡◌, ◌++◌, ◌∷◌, ◌+◌, ◌≤◌, ◌<◌, ◌^◌, ℕ, [], All, List, length, map, take, option_map, IfOk, OnOk, OnErr, None, Some, vec_len, vec_capacity};
+ghost use Rattle.std.specs.Prelude.{◌≡◌, ◌++◌, ◌∷◌, ◌+◌, ◌≤◌, ◌<◌, ℕ, [], All, List, length, map, take, option_map, IfOk, OnOk, OnErr, None, Some, vec_len, vec_capacity};
 ghost use Rattle.am_types.specs.declared.OpId.{OpId};
 ghost use Rattle.am_types.specs.Operations.{operations, slot};
 ghost use Rattle.am_types.specs.Views.{id_of, key_of, object_of};
+ghost use Rattle.am_types.specs.Limits.{counter_end};
 ghost use Rattle.am_graph.specs.Reaches.{number};
 ghost use Rattle.am_fits.specs.Facts.{fact_of, facts, fact_with};
 ghost use Rattle.am_fits.specs.Runs.{keys_of, AreNew};
@@ -258,7 +259,7 @@ impl Table {
     pub fn add<C: ReadChange>(&mut self, alloc: Global, change: &C) -> Result<(), AllocError>
         requires table { IsTable self.old }
         requires new { All (λ x. fact_with (facts_in self.old) x.id ≡ None) (operations (C.change change.now)) }
-        requires end { (C.change change.now).start + length (C.change change.now).ops ≤ 2 ^ 53 }
+        requires end { (C.change change.now).start + length (C.change change.now).ops ≤ counter_end }
         ensures table { IsTable self.new }
         ensures ok { OnOk result (facts_in self.new ≡ facts_in self.old ++ facts (operations (C.change change.now))) }
         ensures err { OnErr result (facts_in self.new ≡ facts_in self.old) }
@@ -291,7 +292,7 @@ impl Table {
         requires author { number (words_of self.old.texts).authors (C.change change.now).actor ≡ Some author }
         requires new { AreNew (keys_of self.old.spans.items) (record { author = author; start = (C.change change.now).start; count = length (C.change change.now).ops }) }
         requires some { 1 ≤ length (C.change change.now).ops }
-        requires end { (C.change change.now).start + length (C.change change.now).ops ≤ 2 ^ 53 }
+        requires end { (C.change change.now).start + length (C.change change.now).ops ≤ counter_end }
         requires runs { author < length self.old.runs.items }
         requires spans { vec_len self.old.spans < vec_capacity self.old.spans }
         ensures table { OnOk result (IsTable self.new) }
@@ -365,7 +366,7 @@ fn keep_each<C: ReadChange>(
     change: &C,
 ) -> Result<(), AllocError>
     requires author { number (words_of texts.old).authors (C.change change.now).actor ≡ Some author }
-    requires end { (C.change change.now).start + length (C.change change.now).ops ≤ 2 ^ 53 }
+    requires end { (C.change change.now).start + length (C.change change.now).ops ≤ counter_end }
     ensures grow { WordsGrow (words_of texts.old) (words_of texts.new) }
     ensures begins { (rest : List Kept) × (kept.new.items ≡ kept.old.items ++ rest) }
     ensures ok { OnOk result (KeepsEach (words_of texts.new) author (C.change change.now) (length (C.change change.now).ops) kept.old.items kept.new.items) }

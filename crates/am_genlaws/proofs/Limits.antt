@@ -11,7 +11,7 @@ use Rattle.am_types.specs.declared.Limit.TheVariants.{Changes, Operations, Preds
 use Rattle.am_types.specs.declared.Verdict.TheVariants.{Full}
 use Rattle.am_types.specs.Fine.{pred_count}
 use Rattle.am_types.specs.Members.{Member, changes}
-use Rattle.am_types.specs.Limits.{above, first_some}
+use Rattle.am_types.specs.Totals.{above, first_some}
 use Rattle.am_types.specs.Verdicts.{full}
 use Rattle.am_genlaws.proofs.Shapes.{IsSmall}
 

@@ -3,7 +3,7 @@
 --     nodes C           that of each member of C, beside its hash
 --     is_held g h       h is a hash of the graph
 use Rattle.std.specs.Ordering.{is_gt}
-use Rattle.std.specs.Prelude.{ℕ, ◌&&◌, ◌==◌, filter, ◌≡◌, ◌≢◌, ◌≤◌, ◌<◌, ◌+◌, ◌^◌, Bool, true, false, List, [], map, length, find, not, slice_index_or, All, Contains, Option, None, Some, ⊤}
+use Rattle.std.specs.Prelude.{ℕ, ◌&&◌, ◌==◌, filter, ◌≡◌, ◌≢◌, ◌≤◌, ◌<◌, ◌+◌, Bool, true, false, List, [], map, length, find, not, slice_index_or, All, Contains, Option, None, Some, ⊤}
 use Rattle.std.specs.List.{list_any, position}
 use lib.Pointwise.{pointwise}
 use Rattle.am_types.specs.declared.Hash.{Hash}
@@ -13,6 +13,7 @@ use Rattle.am_types.specs.Same.{same_bytes, same_hash}
 use Rattle.am_types.specs.Members.{Member}
 use Rattle.am_types.specs.Ancestors.{is_named, ancestor_hashes}
 use Rattle.am_types.specs.contracts.hash.HashPartialEq.TheImpl as equality
+use Rattle.am_types.specs.Limits.{counter_end}
 use Rattle.std.specs.HashSet.{HashSet}
 use Rattle.std.specs.HashSet as set
 use Rattle.am_graph.specs.declared.node.Node.{Node}
@@ -46,7 +47,7 @@ pub record IsSound (g : List (Hash × Node)) : Type 0 where
   pub backward : (i j : ℕ) (d : Hash × Node) → i ≤ j → j < length g → names (slice_index_or g i d) (slice_index_or g j d).0 ≡ false
   pub distinct : (i j : ℕ) (d : Hash × Node) → i < j → j < length g → same_hash (slice_index_or g i d).0 (slice_index_or g j d).0 ≡ false
   pub starts : All (λ e. 1 ≤ e.1.start) g
-  pub ends : All (λ e. e.1.start + e.1.count ≤ 2 ^ 53) g
+  pub ends : All (λ e. e.1.start + e.1.count ≤ counter_end) g
 
 -- the first of these hashes that is not held
 abbrev pub missing : List (Hash × Node) → List Hash → Option Hash

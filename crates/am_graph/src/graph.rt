@@ -1,10 +1,11 @@
 //! Changes, without their operations, in the order in which they came.
-ghost use Rattle.std.specs.Prelude.{◌≡◌, ◌++◌, ◌∷◌, ◌≤◌, ◌+◌, ◌^◌, [], length, List, IfOk, OnOk, OnErr, IfErr, All, true, false, Some, None, if◌then◌else◌};
+ghost use Rattle.std.specs.Prelude.{◌≡◌, ◌++◌, ◌∷◌, ◌≤◌, ◌+◌, [], length, List, IfOk, OnOk, OnErr, IfErr, All, true, false, Some, None, if◌then◌else◌};
 ghost use Rattle.am_types.specs.Members.{hashes, holds};
 ghost use Rattle.am_types.specs.Ancestors.{ancestors};
 ghost use Rattle.am_types.specs.Order.{hash_cmp, sorted_by, Ascends};
 ghost use Rattle.am_graph.specs.Graphs.{nodes, find_node, is_held, missing, ForSet, has, TellsAncestors, MatchFault, MatchMissing, Answers, same_node};
 ghost use Rattle.am_types.specs.declared.Hash.{Hash};
+ghost use Rattle.am_types.specs.Limits.{counter_end};
 
 use crate::fault::{Added, ClockFault, GraphFault};
 use crate::node::Node;
@@ -65,7 +66,7 @@ impl Graph {
     ) -> Result<Added, GraphFault>
         requires deps_ascend { Ascends hash_cmp deps.now }
         requires start { 1 ≤ start }
-        requires end { start + count ≤ 2 ^ 53 }
+        requires end { start + count ≤ counter_end }
         ensures added { IfOk result (λ added. Answers added (find_node self.old hash) (record { actor = actor.now; seq = seq; start = start; count = count; deps = deps.now })) }
         ensures ok { OnOk result (self.new ≡ (if is_held self.old hash then self.old else self.old ++ (hash, record { actor = actor.now; seq = seq; start = start; count = count; deps = deps.now }) ∷ [])) }
         ensures complete { OnOk result (is_held self.old hash ≡ false → missing self.old deps.now ≡ None) }
@@ -133,7 +134,7 @@ impl Graph {
         requires fresh { is_held self.old hash ≡ false }
         requires deps { missing self.old node.deps ≡ None }
         requires start { 1 ≤ node.start }
-        requires end { node.start + node.count ≤ 2 ^ 53 }
+        requires end { node.start + node.count ≤ counter_end }
         ensures ok { OnOk result (self.new ≡ self.old ++ (hash, node) ∷ []) }
         ensures err { OnErr result (self.new ≡ self.old) }
     {

@@ -1,8 +1,9 @@
 //! What the graph keeps beside its changes, and how a change joins.
-ghost use Rattle.std.specs.Prelude.{◌≡◌, ◌++◌, ◌∷◌, ◌≤◌, ◌+◌, ◌^◌, [], length, false, IfOk, OnOk, OnErr, Some, None};
+ghost use Rattle.std.specs.Prelude.{◌≡◌, ◌++◌, ◌∷◌, ◌≤◌, ◌+◌, [], length, false, IfOk, OnOk, OnErr, Some, None};
 ghost use Rattle.am_graph.specs.Graphs.{is_held, missing, ForSet};
 ghost use Rattle.am_types.specs.Canonical.{depth};
 ghost use Rattle.am_types.specs.declared.Change.{Change};
+ghost use Rattle.am_types.specs.Limits.{counter_end};
 ghost use Rattle.am_graph.specs.Reaches.{number};
 ghost use Rattle.am_graph.specs.Whole.{IsWhole, IsMarkOf, Notes, lesser, authors_of, first_in};
 ghost use Rattle.std.specs.BTreeMap.{IsUnchanged};
@@ -88,7 +89,7 @@ impl Parts {
         requires deps { missing self.now.held.entries node.now.deps ≡ None }
         requires author { number (authors_of self.now) node.now.actor ≡ Some author }
         requires start { 1 ≤ node.now.start }
-        requires end { node.now.start + node.now.count ≤ 2 ^ 53 }
+        requires end { node.now.start + node.now.count ≤ counter_end }
         ensures { IfOk result (λ mark. IsMarkOf self.now node.now mark) }
     {
         let depth = self.depth_above(node.deps.as_slice(), guess);
@@ -161,7 +162,7 @@ impl Parts {
         requires fresh { is_held self.old.held.entries hash ≡ false }
         requires deps { missing self.old.held.entries node.deps ≡ None }
         requires start { 1 ≤ node.start }
-        requires end { node.start + node.count ≤ 2 ^ 53 }
+        requires end { node.start + node.count ≤ counter_end }
         requires mark { IsMarkOf self.old node mark }
         ensures whole { IsWhole self.new }
         ensures ok { OnOk result (self.new.held.entries ≡ self.old.held.entries ++ (hash, node) ∷ []) }

@@ -27,7 +27,7 @@ use Rattle.am_types.specs.Fine.{pred_count}
 use Rattle.am_types.specs.Members.{Member, changes, hashes, holds, holds_deps}
 use Rattle.am_types.specs.Ancestors.{ancestors, ancestor_hashes, is_named}
 use Rattle.am_types.specs.ValidSets.{Valid, Joins, JoinInTurn}
-use Rattle.am_types.specs.Limits.{above, first_some}
+use Rattle.am_types.specs.Totals.{above, first_some}
 use Rattle.am_types.specs.Verdicts.{has_seq, seq_clash, seq_gap, start_low, bad_reference, full, limit_passed}
 use Rattle.am_types.specs.References.{first_bad, has_good_references, object_takes, element_known, pred_known}
 use Rattle.am_types.specs.Members.{DepsFirst}

@@ -10,7 +10,7 @@ use Rattle.am_laws.specs.Records.{Hash, Change, Full, Changes, Operations, Preds
 use Rattle.am_types.specs.Order.{hash_cmp, same}
 use Rattle.am_types.specs.Fine.{pred_count}
 use Rattle.am_types.specs.Members.{Member, changes, holds, holds_deps, DistinctHashes}
-use Rattle.am_types.specs.Limits.{above, first_some}
+use Rattle.am_types.specs.Totals.{above, first_some}
 use Rattle.am_types.specs.Verdicts.{limit_passed}
 use Rattle.am_types.specs.ValidSets.{JoinInTurn, Valid}
 use Rattle.am_types.specs.Deliver.{MayCome}

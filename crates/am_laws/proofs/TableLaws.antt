@@ -22,7 +22,7 @@ use Rattle.am_types.specs.Same.{same_bytes}
 use Rattle.am_types.specs.Fine.{Fine, FineOp, IsId, pred_count}
 use Rattle.am_types.specs.Operations.{Operation, numbered, operations, all_operations, operation_cmp, ascending, DistinctIds}
 use Rattle.am_types.specs.Members.{Member, changes, hashes, holds}
-use Rattle.am_types.specs.Limits.{above}
+use Rattle.am_types.specs.Totals.{above}
 use Rattle.am_types.specs.Verdicts.{limit_passed}
 use Rattle.am_types.specs.ValidSets.{Valid}
 use Rattle.am_types.specs.Elements.{elements}

@@ -15,6 +15,7 @@ use Rattle.am_types.specs.Values.{Good}
 use Rattle.am_types.specs.Members.{Member}
 use Rattle.am_types.specs.ValidSets.{Valid}
 use Rattle.am_types.specs.Documents.{object_actors, key_actors, used_actors, table}
+use Rattle.am_types.specs.Limits.{counter_end, greatest_action, most_changes, most_operations}
 
 abbrev pub authors : List Member → List (List ℕ)
 authors C = map (λ m. m.change.actor) C
@@ -29,7 +30,7 @@ pub record RowWithin (actors : List (List ℕ)) (r : Row) : Type 0 where
   pub object : IsObject r.obj
   pub key : IsKey r.key
   pub id : IsId r.id
-  pub action : r.action ≤ 7
+  pub action : r.action ≤ greatest_action
   pub value : Good r.value
   pub mark : IfSome r.mark IsUtf8
   pub succs : All IsId r.succs
@@ -37,8 +38,8 @@ pub record RowWithin (actors : List (List ℕ)) (r : Row) : Type 0 where
 
 pub record MetaWithin (actors : List (List ℕ)) (count : ℕ) (m : Meta) : Type 0 where
   pub actor : IsListed actors m.actor
-  pub seq : (1 ≤ m.seq) × (m.seq < 2 ^ 53)
-  pub max : m.max < 2 ^ 53
+  pub seq : (1 ≤ m.seq) × (m.seq < counter_end)
+  pub max : m.max < counter_end
   pub time : (neg_ℤ (pos (2 ^ 62)) <ℤ m.time) × (m.time <ℤ pos (2 ^ 62))
   pub message : IsUtf8 m.message
   pub deps : All (λ i. i < count) m.deps
@@ -47,11 +48,11 @@ pub record MetaWithin (actors : List (List ℕ)) (count : ℕ) (m : Meta) : Type
 
 pub record TableWithin (t : Table) : Type 0 where
   pub rows : All (RowWithin t.actors) t.rows
-  pub few_rows : length t.rows ≤ 2 ^ 22
-  pub few_succs : sum_by (λ r. length r.succs) t.rows ≤ 2 ^ 22
+  pub few_rows : length t.rows ≤ most_operations
+  pub few_succs : sum_by (λ r. length r.succs) t.rows ≤ most_operations
   pub metas : All (MetaWithin t.actors (length t.metas)) t.metas
-  pub few_metas : length t.metas ≤ 2 ^ 20
-  pub few_deps : sum_by (λ m. length m.deps) t.metas ≤ 2 ^ 22
+  pub few_metas : length t.metas ≤ most_changes
+  pub few_deps : sum_by (λ m. length m.deps) t.metas ≤ most_operations
 
 -- the canonical table of a valid set is within the limits of one document
 abbrev pub TableIsWithin : Type 0

@@ -3,7 +3,7 @@
 --     HasTables A t                  t has the sorted tables of the operations A
 --     Grows C E actors rs cs         the members E, of the changes cs, come to C, whose rows are rs; and the rows of both may be
 --                                    written with places in the list actors
-use Rattle.std.specs.Prelude.{◌≡◌, ℕ, ◌≤◌, ◌^◌, List, ◌++◌, length, map}
+use Rattle.std.specs.Prelude.{◌≡◌, ℕ, ◌≤◌, List, ◌++◌, length, map}
 use Rattle.std.specs.List.{AllByRecursion}
 use Rattle.am_types.specs.declared.Change.{Change}
 use Rattle.am_types.specs.declared.Row.{Row}
@@ -12,6 +12,7 @@ use Rattle.am_types.specs.Operations.{Operation}
 use Rattle.am_types.specs.Order.{sorted_by}
 use Rattle.am_types.specs.Rows.{rows}
 use Rattle.am_types.specs.ValidSets.{Valid}
+use Rattle.am_types.specs.Limits.{most_operations}
 use Rattle.am_doccols.specs.Conditions.{IsRowFor, succ_count}
 use Rattle.am_merge.specs.Laws.{operations_of}
 use Rattle.am_merge.specs.Naming.{named_cmp, named_of, predecessors, references}
@@ -31,5 +32,5 @@ pub record Grows (C E : List Member) (actors : List (List ℕ)) (rs : List Row) 
   pub rows_are : rs ≡ rows_in C
   pub added_are : changes E ≡ cs
   pub fit : AllByRecursion (IsRowFor actors) (rows_in (C ++ E))
-  pub few : length (rows_in (C ++ E)) ≤ 2 ^ 22
-  pub few_succs : succ_count (rows_in (C ++ E)) ≤ 2 ^ 22
+  pub few : length (rows_in (C ++ E)) ≤ most_operations
+  pub few_succs : succ_count (rows_in (C ++ E)) ≤ most_operations

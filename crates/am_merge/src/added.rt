@@ -1,6 +1,7 @@
 //! The operations of added changes, and what the walk over rows takes of them.
-ghost use Rattle.std.specs.Prelude.{◌≡◌, ◌≤◌, ◌<◌, ◌^◌, ◌∷◌, ◌++◌, [], All, List, IfOk, OnOk, filter, length, map};
+ghost use Rattle.std.specs.Prelude.{◌≡◌, ◌≤◌, ◌<◌, ◌∷◌, ◌++◌, [], All, List, IfOk, OnOk, filter, length, map};
 ghost use Rattle.am_types.specs.Operations.{Operation, operations, all_operations, ascending};
+ghost use Rattle.am_types.specs.Limits.{most_operations};
 ghost use Rattle.am_places.specs.Numbered.{operation_of};
 ghost use Rattle.am_places.specs.Sound.{HasRoom};
 ghost use Rattle.am_merge.specs.Aims.{one_at, stacked_at};
@@ -131,7 +132,7 @@ pub fn push_start<'t, 'a>(
     x: &'t Numbered<'a>,
     place: usize,
 ) -> Result<(), AllocError>
-    requires { place ≤ 2 ^ 22 }
+    requires { place ≤ most_operations }
     ensures starts { OnOk result (map (λ s. s.operation) all.new.items ≡ map (λ s. s.operation) all.old.items ++ filter starts (operation_of x.now ∷ [])) }
     ensures stand { OnOk result ((A : List Operation) → place < length A → one_at A place ≡ operation_of x.now ∷ [] → All (Stands A) all.old.items → All (Stands A) all.new.items) }
 {
@@ -147,7 +148,7 @@ fn starting<'t, 'a>(
     alloc: Global,
     operations: &'t [Numbered<'a>],
 ) -> Result<Vec<Start<'t, 'a>>, AllocError>
-    requires { length operations.now ≤ 2 ^ 22 }
+    requires { length operations.now ≤ most_operations }
     ensures { IfOk result (λ all. map (λ s. s.operation) all.items ≡ filter starts (map operation_of operations.now)) }
 {
     let mut all = Vec::new(alloc);
@@ -174,7 +175,7 @@ pub fn beginning<'a>(
     operations: &[Numbered<'a>],
 ) -> Result<Vec<Numbered<'a>>, AllocError>
     requires ascends { ascending (map operation_of operations.now) ≡ map operation_of operations.now }
-    requires few { length operations.now ≤ 2 ^ 22 }
+    requires few { length operations.now ≤ most_operations }
     ensures { IfOk result (λ all. stacked all.items ≡ beginning (map operation_of operations.now)) }
 {
     let mut starts = starting(alloc, operations)?;

@@ -1,9 +1,10 @@
 //! What an added operation names of the others is sought, once.
-ghost use Rattle.std.specs.Prelude.{◌≡◌, ◌≤◌, ◌<◌, ◌^◌, ◌++◌, ◌∷◌, ◌&&◌, [], List, filter, length, map, reverse, IfOk, OnOk};
+ghost use Rattle.std.specs.Prelude.{◌≡◌, ◌≤◌, ◌<◌, ◌++◌, ◌∷◌, ◌&&◌, [], List, filter, length, map, reverse, IfOk, OnOk};
 ghost use Rattle.am_types.specs.declared.ObjId.TheVariants.{Root};
 ghost use Rattle.am_types.specs.Operations.{Operation};
 ghost use Rattle.am_types.specs.Same.{same_object};
 ghost use Rattle.am_types.specs.Views.{id_of, object_of};
+ghost use Rattle.am_types.specs.Limits.{most_operations};
 ghost use Rattle.am_places.specs.Numbered.{operation_of};
 ghost use Rattle.am_places.specs.Rising.{IsFound, Rise};
 ghost use Rattle.am_merge.specs.Aims.{AreAims, means_element, means_id, one_at};
@@ -47,7 +48,7 @@ fn push_predecessor(
     id: IdRef<'_>,
 ) -> Result<(), AllocError>
     requires rise { Rise (map operation_of operations.now) }
-    requires few { length operations.now ≤ 2 ^ 22 }
+    requires few { length operations.now ≤ most_operations }
     requires place { place < length operations.now }
     ensures { OnOk result ((ns : List Named) (x : Operation) → one_at (map operation_of operations.now) place ≡ x ∷ [] → AreAims means_id (map operation_of operations.now) ns aims.old.items
         → AreAims means_id (map operation_of operations.now) (ns ++ record { obj = Root; id = id_of id.entry; operation = x } ∷ []) aims.new.items) }
@@ -69,7 +70,7 @@ pub fn push_predecessors(
     place: usize,
 ) -> Result<(), AllocError>
     requires rise { Rise (map operation_of operations.now) }
-    requires few { length operations.now ≤ 2 ^ 22 }
+    requires few { length operations.now ≤ most_operations }
     requires place { place < length operations.now }
     ensures { OnOk result ((ns : List Named) (x : Operation) → one_at (map operation_of operations.now) place ≡ x ∷ [] → AreAims means_id (map operation_of operations.now) ns aims.old.items
         → AreAims means_id (map operation_of operations.now) (ns ++ naming_each x) aims.new.items) }
@@ -101,7 +102,7 @@ fn push_element(
     id: IdRef<'_>,
 ) -> Result<(), AllocError>
     requires rise { Rise (map operation_of operations.now) }
-    requires few { length operations.now ≤ 2 ^ 22 }
+    requires few { length operations.now ≤ most_operations }
     requires place { place < length operations.now }
     ensures { OnOk result ((ns : List Named) (x : Operation) → one_at (map operation_of operations.now) place ≡ x ∷ [] → AreAims means_element (map operation_of operations.now) ns aims.old.items
         → AreAims means_element (map operation_of operations.now) (ns ++ record { obj = x.op.obj; id = id_of id.entry; operation = x } ∷ []) aims.new.items) }
@@ -128,7 +129,7 @@ fn push_reference(
     place: usize,
 ) -> Result<(), AllocError>
     requires rise { Rise (map operation_of operations.now) }
-    requires few { length operations.now ≤ 2 ^ 22 }
+    requires few { length operations.now ≤ most_operations }
     requires place { place < length operations.now }
     ensures { OnOk result ((ns : List Named) (x : Operation) → one_at (map operation_of operations.now) place ≡ x ∷ [] → AreAims means_element (map operation_of operations.now) ns aims.old.items
         → AreAims means_element (map operation_of operations.now) (ns ++ reference x) aims.new.items) }
@@ -149,7 +150,7 @@ pub fn push_insertion(
     place: usize,
 ) -> Result<(), AllocError>
     requires rise { Rise (map operation_of operations.now) }
-    requires few { length operations.now ≤ 2 ^ 22 }
+    requires few { length operations.now ≤ most_operations }
     requires place { place < length operations.now }
     ensures { OnOk result ((ns : List Named) (x : Operation) → one_at (map operation_of operations.now) place ≡ x ∷ [] → AreAims means_element (map operation_of operations.now) ns aims.old.items
         → AreAims means_element (map operation_of operations.now) (ns ++ references (filter inserts (x ∷ []))) aims.new.items) }
@@ -168,7 +169,7 @@ pub fn push_value(
     place: usize,
 ) -> Result<(), AllocError>
     requires rise { Rise (map operation_of operations.now) }
-    requires few { length operations.now ≤ 2 ^ 22 }
+    requires few { length operations.now ≤ most_operations }
     requires place { place < length operations.now }
     ensures { OnOk result ((ns : List Named) (x : Operation) → one_at (map operation_of operations.now) place ≡ x ∷ [] → AreAims means_element (map operation_of operations.now) ns aims.old.items
         → AreAims means_element (map operation_of operations.now) (ns ++ references (filter gives_value (x ∷ []))) aims.new.items) }

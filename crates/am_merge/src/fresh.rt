@@ -1,7 +1,8 @@
 //! The rows of a first document: there are no old ones, so each new one is written once its operation comes.
-ghost use Rattle.std.specs.Prelude.{◌≡◌, ◌≤◌, ◌<◌, ◌^◌, ◌++◌, ◌∷◌, [], All, Some, length, map, IfOk, IfSome, OnOk};
+ghost use Rattle.std.specs.Prelude.{◌≡◌, ◌≤◌, ◌<◌, ◌++◌, ◌∷◌, [], All, Some, length, map, IfOk, IfSome, OnOk};
 ghost use Rattle.am_types.specs.Operations.{Operation, ascending};
 ghost use Rattle.am_types.specs.Rows.{succs};
+ghost use Rattle.am_types.specs.Limits.{most_operations};
 ghost use Rattle.am_places.specs.Numbered.{operation_of};
 ghost use Rattle.am_places.specs.Rising.{Rise};
 ghost use Rattle.am_places.specs.Sound.{HaveDistinctPreds};
@@ -78,7 +79,7 @@ fn put_all<'a>(
     requires places { stacked_at (map operation_of operations.now) waiting.old.items ≡ beginning (map operation_of operations.now) }
     requires within { All (λ k. k < length operations.now) waiting.old.items }
     requires rise { Rise (map operation_of operations.now) }
-    requires few { length operations.now ≤ 2 ^ 22 }
+    requires few { length operations.now ≤ most_operations }
     requires ascends { ascending (map operation_of operations.now) ≡ map operation_of operations.now }
     requires distinct { HaveDistinctPreds (map operation_of operations.now) }
     requires named { Tells means_id (map operation_of operations.now) (predecessors (map operation_of operations.now)) named.now }
@@ -141,7 +142,7 @@ struct Known {
 // All of it, from one pass.
 fn known_of(alloc: Global, operations: &[Numbered<'_>]) -> Result<Known, AllocError>
     requires rise { Rise (map operation_of operations.now) }
-    requires few { length operations.now ≤ 2 ^ 22 }
+    requires few { length operations.now ≤ most_operations }
     requires ascends { ascending (map operation_of operations.now) ≡ map operation_of operations.now }
     ensures named { IfOk result (λ k. Tells means_id (map operation_of operations.now) (predecessors (map operation_of operations.now)) k.named) }
     ensures hung { IfOk result (λ k. Tells means_element (map operation_of operations.now) (references (hanging (map operation_of operations.now))) k.hung) }
@@ -171,7 +172,7 @@ pub fn fresh_text<'a>(
     operations: &[Numbered<'a>],
 ) -> Result<(Bytes, Bytes), AllocError>
     requires rise { Rise (map operation_of operations.now) }
-    requires few { length operations.now ≤ 2 ^ 22 }
+    requires few { length operations.now ≤ most_operations }
     requires ascends { ascending (map operation_of operations.now) ≡ map operation_of operations.now }
     requires distinct { HaveDistinctPreds (map operation_of operations.now) }
     requires can { CanCarry actors.now (Some []) (walk_out (map operation_of operations.now) 4194304 (beginning (map operation_of operations.now))) [] }

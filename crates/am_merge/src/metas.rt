@@ -1,8 +1,9 @@
 //! The change rows of a larger set, written to their columns.
-ghost use Rattle.std.specs.Prelude.{◌≡◌, ◌≤◌, ◌^◌, ◌++◌, ◌∷◌, [], ℕ, List, All, Some, map, option_map, length, IfOk, IfSome, OnOk};
+ghost use Rattle.std.specs.Prelude.{◌≡◌, ◌≤◌, ◌++◌, ◌∷◌, [], ℕ, List, All, Some, map, option_map, length, IfOk, IfSome, OnOk};
 ghost use Rattle.std.specs.List.{AllByRecursion};
 ghost use Rattle.am_types.specs.Documents.{meta_of as row_of};
 ghost use Rattle.am_types.specs.Fine.{Fine};
+ghost use Rattle.am_types.specs.Limits.{most_changes, most_operations};
 ghost use Rattle.am_colmeta.specs.Metadata.{metadata, listing, body};
 ghost use Rattle.am_doccols.specs.Columns.{written_metas};
 ghost use Rattle.am_doccols.specs.Conditions.{IsMetaFor, HasMetaRoom, dep_count};
@@ -130,8 +131,8 @@ fn push_turns(
     requires empty { writer.old.1 ≡ Some [] }
     requires fine { All (λ t. IfSome t (λ c. Fine c.now)) turns.now }
     requires all { AllByRecursion (IsMetaFor writer.old.0) (change_rows places.now (map (option_map (λ c. c.now)) turns.now) rest.old) }
-    requires few { length (change_rows places.now (map (option_map (λ c. c.now)) turns.now) rest.old) ≤ 2 ^ 20 }
-    requires few_deps { dep_count (change_rows places.now (map (option_map (λ c. c.now)) turns.now) rest.old) ≤ 2 ^ 22 }
+    requires few { length (change_rows places.now (map (option_map (λ c. c.now)) turns.now) rest.old) ≤ most_changes }
+    requires few_deps { dep_count (change_rows places.now (map (option_map (λ c. c.now)) turns.now) rest.old) ≤ most_operations }
     ensures actors { OnOk result (writer.new.0 ≡ writer.old.0) }
     ensures rows { OnOk result (writer.new.1 ≡ Some (change_rows places.now (map (option_map (λ c. c.now)) turns.now) rest.old)) }
 {
@@ -161,8 +162,8 @@ fn text_with(
 ) -> Result<(Bytes, Bytes), AllocError>
     requires fine { All (λ t. IfSome t (λ c. Fine c.now)) turns.now }
     requires all { AllByRecursion (IsMetaFor actors.now) (change_rows places.now (map (option_map (λ c. c.now)) turns.now) rest.old) }
-    requires few { length (change_rows places.now (map (option_map (λ c. c.now)) turns.now) rest.old) ≤ 2 ^ 20 }
-    requires few_deps { dep_count (change_rows places.now (map (option_map (λ c. c.now)) turns.now) rest.old) ≤ 2 ^ 22 }
+    requires few { length (change_rows places.now (map (option_map (λ c. c.now)) turns.now) rest.old) ≤ most_changes }
+    requires few_deps { dep_count (change_rows places.now (map (option_map (λ c. c.now)) turns.now) rest.old) ≤ most_operations }
     ensures metadata { IfOk result (λ text. text.0 ≡ metadata (listing (written_metas actors.now (change_rows places.now (map (option_map (λ c. c.now)) turns.now) rest.old)))) }
     ensures body { IfOk result (λ text. text.1 ≡ body (written_metas actors.now (change_rows places.now (map (option_map (λ c. c.now)) turns.now) rest.old))) }
 {
@@ -183,8 +184,8 @@ pub fn metas_text(
 ) -> Result<(Bytes, Bytes), AllocError>
     requires fine { All (λ t. IfSome t (λ c. Fine c.now)) turns.now }
     requires all { AllByRecursion (IsMetaFor actors.now) (change_rows places.now (map (option_map (λ c. c.now)) turns.now) old) }
-    requires few { length (change_rows places.now (map (option_map (λ c. c.now)) turns.now) old) ≤ 2 ^ 20 }
-    requires few_deps { dep_count (change_rows places.now (map (option_map (λ c. c.now)) turns.now) old) ≤ 2 ^ 22 }
+    requires few { length (change_rows places.now (map (option_map (λ c. c.now)) turns.now) old) ≤ most_changes }
+    requires few_deps { dep_count (change_rows places.now (map (option_map (λ c. c.now)) turns.now) old) ≤ most_operations }
     ensures metadata { IfOk result (λ text. text.0 ≡ metadata (listing (written_metas actors.now (change_rows places.now (map (option_map (λ c. c.now)) turns.now) old.entry)))) }
     ensures body { IfOk result (λ text. text.1 ≡ body (written_metas actors.now (change_rows places.now (map (option_map (λ c. c.now)) turns.now) old.entry))) }
 {

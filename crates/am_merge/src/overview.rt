@@ -1,5 +1,6 @@
 //! One pass over added operations, in which all is taken of each that is to be known before the walk.
-ghost use Rattle.std.specs.Prelude.{◌≡◌, ◌≤◌, ◌^◌, All, filter, length, map, IfOk};
+ghost use Rattle.std.specs.Prelude.{◌≡◌, ◌≤◌, All, filter, length, map, IfOk};
+ghost use Rattle.am_types.specs.Limits.{most_operations};
 ghost use Rattle.am_places.specs.Numbered.{operation_of};
 ghost use Rattle.am_places.specs.Rising.{Rise};
 ghost use Rattle.am_merge.specs.Aims.{AreAims, means_element, means_id};
@@ -33,7 +34,7 @@ pub fn look_over<'t, 'a>(
     guide: &Guide,
 ) -> Result<Overview<'t, 'a>, AllocError>
     requires rise { Rise (map operation_of operations.now) }
-    requires few { length operations.now ≤ 2 ^ 22 }
+    requires few { length operations.now ≤ most_operations }
     ensures named { IfOk result (λ o. AreAims means_id (map operation_of operations.now) (predecessors (map operation_of operations.now)) o.named.items) }
     ensures hung { IfOk result (λ o. AreAims means_element (map operation_of operations.now) (references (hanging (map operation_of operations.now))) o.hung.items) }
     ensures starts { IfOk result (λ o. map (λ s. s.operation) o.starts.items ≡ filter starts (map operation_of operations.now)) }

@@ -1,8 +1,9 @@
 //! The canonical document of a set, from any document of it.
-ghost use Rattle.std.specs.Prelude.{◌≡◌, ◌≤◌, ◌^◌, [], List, length, IfOk, map};
+ghost use Rattle.std.specs.Prelude.{◌≡◌, ◌≤◌, [], List, length, IfOk, map};
 ghost use Rattle.std.specs.List.{AllByRecursion};
 ghost use Rattle.am_types.specs.Documents.{table};
 ghost use Rattle.am_types.specs.Members.{Member};
+ghost use Rattle.am_types.specs.Limits.{most_operations};
 ghost use Rattle.am_colmeta.specs.Metadata.{metadata, listing, body as columns_body};
 ghost use Rattle.am_doc.specs.Contents.{body};
 ghost use Rattle.am_doccols.specs.Columns.{written_rows};
@@ -34,8 +35,8 @@ fn text_of(
     from: &mut RowCursor<'_>,
 ) -> Result<(Bytes, Bytes), AllocError>
     requires fit { AllByRecursion (IsRowFor actors.now) from.old }
-    requires few { length from.old ≤ 2 ^ 22 }
-    requires few_succs { succ_count from.old ≤ 2 ^ 22 }
+    requires few { length from.old ≤ most_operations }
+    requires few_succs { succ_count from.old ≤ most_operations }
     ensures metadata { IfOk result (λ text. text.0 ≡ metadata (listing (written_rows actors.now from.old))) }
     ensures body { IfOk result (λ text. text.1 ≡ columns_body (written_rows actors.now from.old)) }
 {
@@ -53,8 +54,8 @@ fn rows_over(
     rows: RowCursor<'_>,
 ) -> Result<(Bytes, Bytes), AllocError>
     requires fit { AllByRecursion (IsRowFor actors.now) rows }
-    requires few { length rows ≤ 2 ^ 22 }
-    requires few_succs { succ_count rows ≤ 2 ^ 22 }
+    requires few { length rows ≤ most_operations }
+    requires few_succs { succ_count rows ≤ most_operations }
     ensures metadata { IfOk result (λ text. text.0 ≡ metadata (listing (written_rows actors.now rows.entry))) }
     ensures body { IfOk result (λ text. text.1 ≡ columns_body (written_rows actors.now rows.entry)) }
 {

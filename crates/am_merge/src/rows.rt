@@ -1,7 +1,8 @@
 //! The rows of a larger set's document.
-ghost use Rattle.std.specs.Prelude.{◌≡◌, ◌≤◌, ◌^◌, ◌++◌, [], List, Some, length, map, IfOk};
+ghost use Rattle.std.specs.Prelude.{◌≡◌, ◌≤◌, ◌++◌, [], List, Some, length, map, IfOk};
 ghost use Rattle.am_types.specs.Members.{Member};
 ghost use Rattle.am_types.specs.Operations.{ascending};
+ghost use Rattle.am_types.specs.Limits.{most_operations};
 ghost use Rattle.am_places.specs.Numbered.{operation_of};
 ghost use Rattle.am_places.specs.Rising.{Rise};
 ghost use Rattle.am_places.specs.Sound.{HaveDistinctPreds};
@@ -49,7 +50,7 @@ fn tables_of<'a>(alloc: Global, operations: &[Numbered<'a>]) -> Result<Tables<'a
 // The walk before the first row.
 fn start<'a>(alloc: Global, operations: &[Numbered<'a>]) -> Result<Walk<'a>, AllocError>
     requires ascends { ascending (map operation_of operations.now) ≡ map operation_of operations.now }
-    requires few { length operations.now ≤ 2 ^ 22 }
+    requires few { length operations.now ≤ most_operations }
     ensures few { IfOk result (λ w. w.skipped ≡ 0) }
     ensures left { IfOk result (λ w. w.left ≡ 4194304) }
     ensures waiting { IfOk result (λ w. waiting_of w ≡ beginning (map operation_of operations.now)) }
@@ -72,8 +73,8 @@ fn walk_all<'a>(
     rows: &RowCursor<'_>,
 ) -> Result<Walk<'a>, AllocError>
     requires ascends { ascending (map operation_of operations.now) ≡ map operation_of operations.now }
-    requires few_added { length operations.now ≤ 2 ^ 22 }
-    requires few { length rows.now ≤ 2 ^ 22 }
+    requires few_added { length operations.now ≤ most_operations }
+    requires few { length rows.now ≤ most_operations }
     ensures { IfOk result (λ w. AreTables (map operation_of operations.now) tables.now
         → done_in tables.now.named.items w ≡ walked (map operation_of operations.now) rows.now 4194304 (beginning (map operation_of operations.now))) }
 {
@@ -91,8 +92,8 @@ fn walked_text<'a>(
     tables: &Tables<'a>,
 ) -> Result<(Bytes, Bytes), AllocError>
     requires tables { AreTables (map operation_of operations.now) tables.now }
-    requires few_added { length operations.now ≤ 2 ^ 22 }
-    requires few { length rows.now ≤ 2 ^ 22 }
+    requires few_added { length operations.now ≤ most_operations }
+    requires few { length rows.now ≤ most_operations }
     requires can { CanCarry actors.now (Some []) (walked (map operation_of operations.now) rows.now 4194304 (beginning (map operation_of operations.now))) rows.now }
     ensures metadata { IfOk result (λ text. text.0 ≡ metadata (listing (written_rows actors.now (carried (walked (map operation_of operations.now) rows.now 4194304 (beginning (map operation_of operations.now))) rows.now)))) }
     ensures body { IfOk result (λ text. text.1 ≡ body (written_rows actors.now (carried (walked (map operation_of operations.now) rows.now 4194304 (beginning (map operation_of operations.now))) rows.now))) }
@@ -117,9 +118,9 @@ fn text_with<'a>(
 ) -> Result<(Bytes, Bytes), AllocError>
     requires ascends { ascending (map operation_of operations.now) ≡ (map operation_of operations.now) }
     requires rise { Rise (map operation_of operations.now) }
-    requires few_added { length operations.now ≤ 2 ^ 22 }
+    requires few_added { length operations.now ≤ most_operations }
     requires distinct { HaveDistinctPreds (map operation_of operations.now) }
-    requires few { length rows.now ≤ 2 ^ 22 }
+    requires few { length rows.now ≤ most_operations }
     requires can { CanCarry actors.now (Some []) (walked (map operation_of operations.now) rows.now 4194304 (beginning (map operation_of operations.now))) rows.now }
     ensures metadata { IfOk result (λ text. text.0 ≡ metadata (listing (written_rows actors.now (carried (walked (map operation_of operations.now) rows.now 4194304 (beginning (map operation_of operations.now))) rows.now)))) }
     ensures body { IfOk result (λ text. text.1 ≡ body (written_rows actors.now (carried (walked (map operation_of operations.now) rows.now 4194304 (beginning (map operation_of operations.now))) rows.now))) }

@@ -3,6 +3,7 @@ ghost use Rattle.std.specs.Prelude.{◌≡◌, ◌+◌, ◌*◌, ◌/◌, ◌^�
 ghost use Rattle.std.specs.Ordering.{nat_cmp, ordering_then};
 ghost use Rattle.am_types.specs.Bytes.{IsBytes};
 ghost use Rattle.am_types.specs.Order.{bytes_cmp, object_cmp, sorted_by};
+ghost use Rattle.am_types.specs.Limits.{most_operations};
 ghost use Rattle.am_places.specs.Numbered.{operation_of};
 ghost use Rattle.am_merge.specs.Fronts.{front_at, is_root};
 ghost use Rattle.am_merge.specs.Starts.{actor_in, by_placed, by_start, key_at, start_key, start_lane_cmp, turn_cmp};
@@ -293,7 +294,7 @@ fn compare_starts(a: &Start<'_, '_>, b: &Start<'_, '_>) -> Ordering
 impl<'t, 'a> Start<'t, 'a> {
     /// The operation at a place, beside what decides.
     pub fn of(x: &'t Numbered<'a>, place: usize) -> Start<'t, 'a>
-        requires { place ≤ 2 ^ 22 }
+        requires { place ≤ most_operations }
         ensures { result ≡ record { operation = operation_of x.now; place = place } }
     {
         let name = name_of(x).as_bytes();

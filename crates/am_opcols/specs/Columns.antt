@@ -2,9 +2,10 @@
 --     op_columns ops                    what each column holds, ascending by specification
 --     op_specifications                 the specifications of the columns that operations may have
 --     SpellsOps actors columns ops      the columns spell these operations, each within its limits
-use Rattle.std.specs.Prelude.{ℕ, ◌≤◌, ◌^◌, List, [], ◌∷◌, ◌++◌, length, map}
+use Rattle.std.specs.Prelude.{ℕ, ◌≤◌, List, [], ◌∷◌, ◌++◌, length, map}
 use Rattle.std.specs.List.{AllByRecursion}
 use Rattle.am_types.specs.declared.Op.{Op}
+use Rattle.am_types.specs.Limits.{greatest_action, most_operations}
 use Rattle.am_values.specs.Columns.{AllGood}
 use Rattle.am_fields.specs.Columns.{Column, Flags, RareFlags, Texts, SpellsColumns}
 use Rattle.am_fields.specs.Layout.{object_columns, key_columns, value_columns, group_columns, given, flat}
@@ -30,11 +31,11 @@ op_specifications = 1 ∷ 2 ∷ 17 ∷ 19 ∷ 21 ∷ 52 ∷ 66 ∷ 86 ∷ 87 ∷
 pub record AreOpsWithin (ops : List Op) : Type 0 where
   pub objects : AllByRecursion IsObjectWithin (map (λ o. o.obj) ops)
   pub keys : AllByRecursion IsKeyWithin (map (λ o. o.key) ops)
-  pub actions : AllByRecursion (λ a. a ≤ 7) (map (λ o. o.action) ops)
+  pub actions : AllByRecursion (λ a. a ≤ greatest_action) (map (λ o. o.action) ops)
   pub values : AllGood (map (λ o. o.value) ops)
   pub preds : AllByRecursion IsWithin (flat (map (λ o. o.preds) ops))
-  pub few : length ops ≤ 2 ^ 22
-  pub few_preds : length (flat (map (λ o. o.preds) ops)) ≤ 2 ^ 22
+  pub few : length ops ≤ most_operations
+  pub few_preds : length (flat (map (λ o. o.preds) ops)) ≤ most_operations
 
 pub record SpellsOps (actors : List (List ℕ)) (columns : List (ℕ × List ℕ)) (ops : List Op) : Type 0 where
   pub spelled : SpellsColumns actors columns (op_columns ops)

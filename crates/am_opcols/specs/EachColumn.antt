@@ -7,7 +7,7 @@
 --     ArePlain author actors columns        no listed column is empty, each is canonical, and the actors ascend, without the
 --                                           author
 --     AreNamed actors ops                   the operations name each of the actors
-use Rattle.std.specs.Prelude.{◌≡◌, ℕ, ◌≤◌, ◌^◌, List, [], length, Option, Bool, ℤ}
+use Rattle.std.specs.Prelude.{◌≡◌, ℕ, ◌≤◌, List, [], length, Option, Bool, ℤ}
 use Rattle.std.specs.List.{flat_map, AllByRecursion}
 use Rattle.am_types.specs.declared.Op.{Op}
 use Rattle.am_runs.specs.Items.{unsigned_end, text_end}
@@ -15,25 +15,26 @@ use Rattle.am_runs.specs.Canonical.{Canon}
 use Rattle.am_delta.specs.Deltas.{CanonDeltas}
 use Rattle.am_flags.specs.Flags.{CanonFlags, CanonMaybe}
 use Rattle.am_types.specs.Order.{bytes_cmp}
+use Rattle.am_types.specs.Limits.{most_operations}
 use Rattle.am_colmeta.specs.Metadata.{column_at, listing, AreFilled}
 use Rattle.am_fields.specs.Actors.{IsListed}
 use Rattle.am_opcols.specs.Others.{actors_of}
 use Rattle.am_opcols.specs.Chains.{Chain}
 
 abbrev pub CanonicalNumbers : List ℕ → Type 0
-CanonicalNumbers bytes = (list : List (Option (List ℕ))) × Canon unsigned_end bytes list × (length list ≤ 2 ^ 22)
+CanonicalNumbers bytes = (list : List (Option (List ℕ))) × Canon unsigned_end bytes list × (length list ≤ most_operations)
 
 abbrev pub CanonicalTexts : List ℕ → Type 0
-CanonicalTexts bytes = (list : List (Option (List ℕ))) × Canon text_end bytes list × (length list ≤ 2 ^ 22)
+CanonicalTexts bytes = (list : List (Option (List ℕ))) × Canon text_end bytes list × (length list ≤ most_operations)
 
 abbrev pub CanonicalDeltas : List ℕ → Type 0
-CanonicalDeltas bytes = (values : List (Option ℤ)) × CanonDeltas bytes values × (length values ≤ 2 ^ 22)
+CanonicalDeltas bytes = (values : List (Option ℤ)) × CanonDeltas bytes values × (length values ≤ most_operations)
 
 abbrev pub CanonicalFlags : List ℕ → Type 0
-CanonicalFlags bytes = (flags : List Bool) × CanonFlags bytes flags × (length flags ≤ 2 ^ 22)
+CanonicalFlags bytes = (flags : List Bool) × CanonFlags bytes flags × (length flags ≤ most_operations)
 
 abbrev pub CanonicalMaybe : List ℕ → Type 0
-CanonicalMaybe bytes = (flags : List Bool) × CanonMaybe bytes flags × (length flags ≤ 2 ^ 22)
+CanonicalMaybe bytes = (flags : List Bool) × CanonMaybe bytes flags × (length flags ≤ most_operations)
 
 pub record AreNumbersCanonical (columns : List (ℕ × List ℕ)) : Type 0 where
   pub object_actor : CanonicalNumbers (column_at columns 1)

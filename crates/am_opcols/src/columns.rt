@@ -1,7 +1,8 @@
 //! The bytes of each column of operations.
-ghost use Rattle.std.specs.Prelude.{◌≡◌, ◌≤◌, ◌^◌, ◌++◌, All, length, map, option_map, IfOk, IfSome, OnOk};
+ghost use Rattle.std.specs.Prelude.{◌≡◌, ◌≤◌, ◌++◌, All, length, map, option_map, IfOk, IfSome, OnOk};
 ghost use Rattle.am_types.specs.Fine.{IsId, IsKey, FineOp, pred_count};
 ghost use Rattle.am_types.specs.Views.{id_of, key_of};
+ghost use Rattle.am_types.specs.Limits.{most_operations};
 ghost use Rattle.am_delta.specs.Deltas.{IsMiddling, canonical_delta_bytes};
 ghost use Rattle.am_flags.specs.Flags.{canonical_bytes as flag_bytes, canonical_maybe_bytes};
 ghost use Rattle.am_values.specs.Columns.{joined};
@@ -25,7 +26,7 @@ pub fn push_numbers<C: Cell, O: ReadOp>(
     ops: &[O],
 ) -> Result<(), AllocError>
     requires fine { All FineOp (map O.op ops.now) }
-    requires few { length ops.now ≤ 2 ^ 22 }
+    requires few { length ops.now ≤ most_operations }
     ensures { OnOk result (out.new.items ≡ out.old.items ++ numbers_bytes (map (C.cell actors.now) (map O.op ops.now))) }
 {
     room.clear();
@@ -64,7 +65,7 @@ pub fn push_key_counters<O: ReadOp>(
     ops: &[O],
 ) -> Result<(), AllocError>
     requires fine { All FineOp (map O.op ops.now) }
-    requires few { length ops.now ≤ 2 ^ 22 }
+    requires few { length ops.now ≤ most_operations }
     ensures { OnOk result (out.new.items ≡ out.old.items ++ canonical_delta_bytes (map (λ o. counter_of_key o.key) (map O.op ops.now))) }
 {
     room.clear();
@@ -76,7 +77,7 @@ pub fn push_key_counters<O: ReadOp>(
 
 /// The column of the names of keys.
 pub fn key_names_in<O: ReadOp>(alloc: Global, ops: &[O]) -> Result<Bytes, AllocError>
-    requires { length ops.now ≤ 2 ^ 22 }
+    requires { length ops.now ≤ most_operations }
     ensures { IfOk result (λ bytes. bytes ≡ texts_bytes (map (λ o. key_string o.key) (map O.op ops.now))) }
 {
     let mut writer = TextWriter::new(alloc);
@@ -91,7 +92,7 @@ pub fn key_names_in<O: ReadOp>(alloc: Global, ops: &[O]) -> Result<Bytes, AllocE
 
 /// The column of the names of marks.
 pub fn marks_in<O: ReadOp>(alloc: Global, ops: &[O]) -> Result<Bytes, AllocError>
-    requires { length ops.now ≤ 2 ^ 22 }
+    requires { length ops.now ≤ most_operations }
     ensures { IfOk result (λ bytes. bytes ≡ texts_bytes (map (λ o. o.mark) (map O.op ops.now))) }
 {
     let mut writer = TextWriter::new(alloc);
@@ -106,7 +107,7 @@ pub fn marks_in<O: ReadOp>(alloc: Global, ops: &[O]) -> Result<Bytes, AllocError
 
 /// The column that tells which operations insert.
 pub fn inserts_in<O: ReadOp>(alloc: Global, ops: &[O]) -> Result<Bytes, AllocError>
-    requires { length ops.now ≤ 2 ^ 22 }
+    requires { length ops.now ≤ most_operations }
     ensures { IfOk result (λ bytes. bytes ≡ flag_bytes (map (λ o. o.insert) (map O.op ops.now))) }
 {
     let mut writer = FlagWriter::new(alloc);
@@ -118,7 +119,7 @@ pub fn inserts_in<O: ReadOp>(alloc: Global, ops: &[O]) -> Result<Bytes, AllocErr
 
 /// The column that tells which marks expand.
 pub fn expands_in<O: ReadOp>(alloc: Global, ops: &[O]) -> Result<Bytes, AllocError>
-    requires { length ops.now ≤ 2 ^ 22 }
+    requires { length ops.now ≤ most_operations }
     ensures { IfOk result (λ bytes. bytes ≡ canonical_maybe_bytes (map (λ o. o.expand) (map O.op ops.now))) }
 {
     let mut writer = FlagWriter::new(alloc);
@@ -170,7 +171,7 @@ pub fn push_pred_actors<O: ReadOp>(
     actors: &ListedActors<'_>,
     ops: &[O],
 ) -> Result<(), AllocError>
-    requires few { pred_count (map O.op ops.now) ≤ 2 ^ 22 }
+    requires few { pred_count (map O.op ops.now) ≤ most_operations }
     ensures { OnOk result (out.new.items ≡ out.old.items ++ numbers_bytes (map (option_map (place_of actors.now)) (map id_actor (flat (map (λ o. o.preds) (map O.op ops.now)))))) }
 {
     room.clear();
@@ -187,7 +188,7 @@ pub fn push_pred_counters<O: ReadOp>(
     ops: &[O],
 ) -> Result<(), AllocError>
     requires fine { All FineOp (map O.op ops.now) }
-    requires few { pred_count (map O.op ops.now) ≤ 2 ^ 22 }
+    requires few { pred_count (map O.op ops.now) ≤ most_operations }
     ensures { OnOk result (out.new.items ≡ out.old.items ++ canonical_delta_bytes (map id_counter (flat (map (λ o. o.preds) (map O.op ops.now))))) }
 {
     room.clear();

@@ -4,6 +4,7 @@ ghost use Rattle.std.specs.List.{flat_map};
 ghost use Rattle.am_types.specs.declared.Op.{Op};
 ghost use Rattle.am_types.specs.Fine.{FineOp, pred_count};
 ghost use Rattle.am_types.specs.Order.{bytes_cmp, Ascends};
+ghost use Rattle.am_types.specs.Limits.{most_operations};
 ghost use Rattle.am_colmeta.specs.Metadata.{body};
 ghost use Rattle.am_opcols.specs.Columns.{SpellsOps};
 ghost use Rattle.am_opcols.specs.Others.{actors_of, others};
@@ -17,7 +18,7 @@ pub fn one_list()
 /// The canonical columns of fine operations spell them. The length of the columns fits 64 bits, as all bytes that a
 /// program has do.
 pub fn canonical_columns_spell()
-    ensures { (author : List ℕ) (ops : List Op) → All FineOp ops → length ops ≤ 2 ^ 22 → pred_count ops ≤ 2 ^ 22 → length (body (written_columns author ops)) < 2 ^ 64
+    ensures { (author : List ℕ) (ops : List Op) → All FineOp ops → length ops ≤ most_operations → pred_count ops ≤ most_operations → length (body (written_columns author ops)) < 2 ^ 64
         → SpellsOps (author ∷ others author ops) (written_columns author ops) ops }
 {}
 

@@ -1,6 +1,7 @@
 //! Writing the operations of a change to their canonical columns.
-ghost use Rattle.std.specs.Prelude.{◌≡◌, ◌+◌, ◌≤◌, ◌^◌, ◌++◌, ◌∷◌, [], ℕ, All, length, map, IfOk, OnOk};
+ghost use Rattle.std.specs.Prelude.{◌≡◌, ◌+◌, ◌≤◌, ◌++◌, ◌∷◌, [], ℕ, All, length, map, IfOk, OnOk};
 ghost use Rattle.am_types.specs.Fine.{FineOp, pred_count};
+ghost use Rattle.am_types.specs.Limits.{most_operations};
 ghost use Rattle.am_colmeta.specs.Metadata.{metadata, listing, body, not_empty};
 ghost use Rattle.am_fields.specs.Columns.{spellings};
 ghost use Rattle.am_opcols.specs.Columns.{op_columns};
@@ -63,8 +64,8 @@ fn push_columns<O: ReadOp>(
     ops: &[O],
 ) -> Result<(), AllocError>
     requires fine { All FineOp (map O.op ops.now) }
-    requires few { length ops.now ≤ 2 ^ 22 }
-    requires few_preds { pred_count (map O.op ops.now) ≤ 2 ^ 22 }
+    requires few { length ops.now ≤ most_operations }
+    requires few_preds { pred_count (map O.op ops.now) ≤ most_operations }
     requires empty { out.old.items ≡ [] }
     requires none { listed.old.items ≡ [] }
     ensures { OnOk result ((out.new.items ≡ body (spellings actors.now (op_columns (map O.op ops.now)))) × (listed.new.items ≡ listing (spellings actors.now (op_columns (map O.op ops.now))))) }
@@ -121,8 +122,8 @@ fn text_of<O: ReadOp>(
     ops: &[O],
 ) -> Result<(Bytes, Bytes), AllocError>
     requires fine { All FineOp (map O.op ops.now) }
-    requires few { length ops.now ≤ 2 ^ 22 }
-    requires few_preds { pred_count (map O.op ops.now) ≤ 2 ^ 22 }
+    requires few { length ops.now ≤ most_operations }
+    requires few_preds { pred_count (map O.op ops.now) ≤ most_operations }
     ensures metadata { IfOk result (λ text. text.0 ≡ metadata (listing (not_empty (spellings actors.now (op_columns (map O.op ops.now)))))) }
     ensures body { IfOk result (λ text. text.1 ≡ body (not_empty (spellings actors.now (op_columns (map O.op ops.now))))) }
 {
@@ -151,8 +152,8 @@ pub fn write_ops<O: ReadOp>(
     author: &ActorId,
 ) -> Result<OpsText, AllocError>
     requires fine { All FineOp (map O.op ops.now) }
-    requires few { length ops.now ≤ 2 ^ 22 }
-    requires few_preds { pred_count (map O.op ops.now) ≤ 2 ^ 22 }
+    requires few { length ops.now ≤ most_operations }
+    requires few_preds { pred_count (map O.op ops.now) ≤ most_operations }
     ensures others { IfOk result (λ text. text.others ≡ others author.now (map O.op ops.now)) }
     ensures metadata { IfOk result (λ text. text.metadata ≡ metadata (listing (written_columns author.now (map O.op ops.now)))) }
     ensures body { IfOk result (λ text. text.body ≡ body (written_columns author.now (map O.op ops.now))) }

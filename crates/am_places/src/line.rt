@@ -1,10 +1,11 @@
 //! The elements of all lists and texts in one line, and where each stands in it.
-ghost use Rattle.std.specs.Prelude.{ℕ, ◌≡◌, ◌≤◌, ◌<◌, ◌^◌, ◌++◌, ◌∷◌, [], List, filter, fold, length, map, IfOk};
+ghost use Rattle.std.specs.Prelude.{ℕ, ◌≡◌, ◌≤◌, ◌<◌, ◌++◌, ◌∷◌, [], List, filter, fold, length, map, IfOk};
 ghost use Rattle.std.specs.List.{position_or_len};
 ghost use Rattle.am_types.specs.Operations.{Operation};
 ghost use Rattle.am_types.specs.declared.OpId.{OpId};
 ghost use Rattle.am_types.specs.Same.{same_id};
 ghost use Rattle.am_types.specs.Views.{id_of};
+ghost use Rattle.am_types.specs.Limits.{most_operations};
 ghost use Rattle.am_chain.specs.Sequences.{IsStanding, key_of_node};
 ghost use Rattle.am_places.specs.Line.{AreAnchored, IsAnchoredIn, IsHeld, IsLine, is_insertion, line, places_of, put};
 ghost use Rattle.am_places.specs.Numbered.{ids_of, operation_of};
@@ -43,7 +44,7 @@ fn insertions<'a>(
 fn reference(before: &[Numbered<'_>], x: &Numbered<'_>) -> Option<u32>
     requires rise { Rise (map operation_of before.now) }
     requires anchored { IsAnchoredIn (map operation_of before.now) (operation_of x.now).op.key }
-    requires few { length before.now < 2 ^ 22 }
+    requires few { length before.now < most_operations }
     ensures key { key_of_node (ids_of before.now) result ≡ (operation_of x.now).op.key }
     ensures standing { IsStanding (length before.now) result }
 {
@@ -61,7 +62,7 @@ fn reference(before: &[Numbered<'_>], x: &Numbered<'_>) -> Option<u32>
 fn put_all(alloc: Global, elements: &[Numbered<'_>]) -> Result<Chain, AllocError>
     requires rise { Rise (map operation_of elements.now) }
     requires anchored { AreAnchored (map operation_of elements.now) }
-    requires few { length elements.now ≤ 2 ^ 22 }
+    requires few { length elements.now ≤ most_operations }
     ensures { IfOk result (λ chain. chain.walk ≡ fold put [] (map operation_of elements.now)) }
 {
     let mut chain = Chain::new(alloc);
@@ -103,7 +104,7 @@ fn number(
     chain: &Chain,
 ) -> Result<(Vec<Option<u64>>, u64), AllocError>
     requires rise { Rise (map operation_of elements.now) }
-    requires few { length chain.now.walk ≤ 2 ^ 22 }
+    requires few { length chain.now.walk ≤ most_operations }
     ensures places { IfOk result (λ r. r.0.items ≡ places_of chain.now.walk elements.now) }
     ensures count { IfOk result (λ r. r.1 ≡ length chain.now.walk) }
 {
@@ -122,7 +123,7 @@ fn number(
 pub fn line_of<'a>(alloc: Global, operations: &[Numbered<'a>]) -> Result<Line<'a>, AllocError>
     requires rise { Rise (map operation_of operations.now) }
     requires anchored { AreAnchored (filter is_insertion (map operation_of operations.now)) }
-    requires few { length operations.now ≤ 2 ^ 22 }
+    requires few { length operations.now ≤ most_operations }
     ensures { IfOk result (IsLine (map operation_of operations.now)) }
 {
     let elements = insertions(alloc, operations)?;

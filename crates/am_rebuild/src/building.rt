@@ -2,11 +2,12 @@
 ghost use Rattle.am_types.specs.declared.Table.{Table};
 ghost use Rattle.am_types.specs.declared.Row.{Row};
 ghost use Rattle.am_types.specs.declared.Meta.{Meta as AMeta};
+ghost use Rattle.am_types.specs.Limits.{counter_end};
 ghost use Rattle.am_change.specs.Hashes.{own_hash};
 ghost use Rattle.am_rebuild.specs.Mentions.{ArePlaced, AreSortedMentions};
 ghost use Rattle.am_rebuild.specs.Names.{names_of};
 ghost use Rattle.am_rebuild.specs.Joined.{BuildsOne, TakesNext, BuildsGapless};
-ghost use Rattle.std.specs.Prelude.{◌≡◌, [], ◌^◌, ◌<◌, List, All, Contains, IfOk};
+ghost use Rattle.std.specs.Prelude.{◌≡◌, [], ◌<◌, List, All, Contains, IfOk};
 
 use crate::change::change_at;
 use crate::gathered::Gathered;
@@ -44,7 +45,7 @@ pub(crate) fn build_from<'a>(
     requires empty { gathered.old ≡ [] }
     requires placed { ArePlaced (names_of names.now) all.items }
     requires named { All (λ m. Contains (names_of names.now) m.actor) metas.now }
-    requires maxes { All (λ m. m.max < 2 ^ 53) metas.now }
+    requires maxes { All (λ m. m.max < counter_end) metas.now }
     ensures { IfOk result (λ built. (t : Table) → AreSortedMentions t.rows all.entry.items → t.metas ≡ metas.now → BuildsGapless own_hash t gathered.new built) }
 {
     let mut left = all;

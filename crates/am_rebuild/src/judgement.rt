@@ -1,6 +1,7 @@
 //! What is found of a table: its one history with its heads, its history with other heads, or none.
-ghost use Rattle.std.specs.Prelude.{◌≡◌, ◌<◌, ◌^◌, ◌↔◌, ℕ, List, [], All, IsTrue, IfOk, Option, None};
+ghost use Rattle.std.specs.Prelude.{◌≡◌, ◌<◌, ◌↔◌, ℕ, List, [], All, IsTrue, IfOk, Option, None};
 ghost use Rattle.am_types.specs.Order.{bytes_cmp, hash_cmp, among, Ascends};
+ghost use Rattle.am_types.specs.Limits.{counter_end};
 ghost use Rattle.am_change.specs.Hashes.{own_hash};
 ghost use Rattle.am_histories.specs.Laws.{table_actors};
 ghost use Rattle.am_rebuild.specs.Judged.{first_apart, IsJudged};
@@ -82,7 +83,7 @@ pub(crate) fn judge_lent<'a>(
     table: LentTable<'a>,
 ) -> Result<Judgement, AllocError>
     requires empty { gathered.old ≡ [] }
-    requires maxes { All (λ m. m.max < 2 ^ 53) table.metas.now }
+    requires maxes { All (λ m. m.max < counter_end) table.metas.now }
     requires heads { Ascends hash_cmp table.heads.now }
     requires actors { All (λ a. IsTrue (among bytes_cmp table.actors.now a)) (table_actors (table_of table)) }
     ensures { IfOk result (IsJudged own_hash (table_of table.entry) gathered.new) }

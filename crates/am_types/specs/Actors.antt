@@ -2,8 +2,9 @@
 --     IsActor bytes     there are 1 to 1,024 bytes
 use Rattle.std.specs.Prelude.{ℕ, ◌≤◌, List, length}
 use Rattle.am_types.specs.Bytes.{IsBytes}
+use Rattle.am_types.specs.Limits.{longest_actor}
 
 pub record IsActor (bytes : List ℕ) : Type 0 where
   pub some : 1 ≤ length bytes
-  pub few : length bytes ≤ 1024
+  pub few : length bytes ≤ longest_actor
   pub are_bytes : IsBytes bytes

@@ -16,13 +16,13 @@ use Rattle.am_types.specs.Actors.{IsActor}
 use Rattle.am_types.specs.Bytes.{IsBytes, IsHash}
 use Rattle.am_types.specs.Records.{OpId, ObjId, Root, Made, Key, Name, Head, Elem, Op, Change}
 use Rattle.am_types.specs.Order.{id_cmp, hash_cmp, Ascends}
-use Rattle.am_types.specs.Limits.{most_operations}
+use Rattle.am_types.specs.Limits.{counter_end, greatest_action, most_operations}
 use Rattle.am_types.specs.Operations.{max}
 use Rattle.am_types.specs.Values.{Good}
 
 pub record IsId (i : OpId) : Type 0 where
   pub low : 1 ≤ i.counter
-  pub high : i.counter < 2 ^ 53
+  pub high : i.counter < counter_end
   pub actor : IsActor i.actor
 
 -- the root, or an id
@@ -57,7 +57,7 @@ pub record FineDeletion (op : Op) : Type 0 where
   pub mark : op.mark ≡ None
 
 pub record FineOp (op : Op) : Type 0 where
-  pub action : op.action ≤ 7
+  pub action : op.action ≤ greatest_action
   pub object : IsObject op.obj
   pub key : IsKey op.key
   pub value : Good op.value
@@ -73,10 +73,10 @@ abbrev pub pred_count : List Op → ℕ
 pred_count ops = sum_by (λ op. length op.preds) ops
 
 pub record GoodNumbers (c : Change) : Type 0 where
-  pub seq : (1 ≤ c.seq) × (c.seq < 2 ^ 53)
+  pub seq : (1 ≤ c.seq) × (c.seq < counter_end)
   pub start : 1 ≤ c.start
   pub few_ops : length c.ops ≤ most_operations
-  pub max : max c < 2 ^ 53
+  pub max : max c < counter_end
   pub time : (neg_ℤ (pos (2 ^ 62)) <ℤ c.time) × (c.time <ℤ pos (2 ^ 62))
 
 pub record Fine (c : Change) : Type 0 where

@@ -1,4 +1,5 @@
 pub mod Bytes
+pub mod Limits
 pub mod Actors
 pub mod Records
 pub mod Order
@@ -9,7 +10,6 @@ pub mod Same
 pub mod Owned
 pub mod Actions
 pub mod Operations
-pub mod Limits
 pub mod Fine
 pub mod Totals
 pub mod Members

@@ -1,23 +1,23 @@
--- The numbers that changes and sets are limited by, and the first limit that is passed. They are choices of amstore's
--- profile.
+-- The numbers that changes and sets are limited by. Of the most, each is a choice
+-- of amstore's profile; the numbers of counters and actions are the format's.
+--     counter_end           what every counter is below, and every number that a change has among those of its author
+--     greatest_action       the greatest number of an action
+--     longest_actor         the most bytes of an actor
 --     most_changes          the most changes of a set
 --     most_operations       the most operations of a change and of a set, and the most predecessors and dependencies of either
---     above most n limit    the limit, where n is above the most
---     first_some os         the answer of the first that has one
-use Rattle.std.specs.Prelude.{ℕ, ◌^◌, nat_lt, List, [], ◌∷◌, Option, None}
-use Rattle.std.specs.Bool.{then_some}
-use Rattle.std.specs.Option.{option_or}
-use Rattle.am_types.specs.Records.{Limit}
+use Rattle.std.specs.Prelude.{ℕ, ◌^◌}
+
+abbrev pub counter_end : ℕ
+counter_end = 2 ^ 53
+
+abbrev pub greatest_action : ℕ
+greatest_action = 7
+
+abbrev pub longest_actor : ℕ
+longest_actor = 1024
 
 abbrev pub most_changes : ℕ
 most_changes = 2 ^ 20
 
 abbrev pub most_operations : ℕ
 most_operations = 2 ^ 22
-
-abbrev pub above : ℕ → ℕ → Limit → Option Limit
-above most n limit = then_some (nat_lt most n) limit
-
-abbrev pub first_some : {X : Type 0} → List (Option X) → Option X
-first_some [] = None
-first_some (o ∷ os) = option_or o (first_some os)

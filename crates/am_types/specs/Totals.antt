@@ -1,12 +1,16 @@
 -- What the limits of a set ask of its changes.
 --     totals_of cs          how many changes cs are, and how many operations, predecessors and dependencies they have in all
 --     totals_with t c       those of the changes with the totals t, and of c
+--     above most n limit    the limit, where n is above the most
+--     first_some os         the answer of the first that has one
 --     limit_of t            the first limit that changes with the totals t pass
 --     AreWithinLimits t     the totals t pass no limit
 --     IsWithinLimits c      the change c alone passes no limit
-use Rattle.std.specs.Prelude.{◌+◌, ◌≤◌, List, [], ◌∷◌, length, sum_by, Option}
+use Rattle.std.specs.Prelude.{ℕ, ◌+◌, ◌≤◌, nat_lt, List, [], ◌∷◌, length, sum_by, Option, None}
+use Rattle.std.specs.Bool.{then_some}
+use Rattle.std.specs.Option.{option_or}
 use Rattle.am_types.specs.Records.{Change, Totals, Limit, Changes, Operations, Preds, Links}
-use Rattle.am_types.specs.Limits.{most_changes, most_operations, above, first_some}
+use Rattle.am_types.specs.Limits.{most_changes, most_operations}
 use Rattle.am_types.specs.Fine.{pred_count}
 
 abbrev pub totals_of : List Change → Totals
@@ -24,6 +28,13 @@ totals_with t c = record {
   preds = t.preds + pred_count c.ops;
   links = t.links + length c.deps;
 }
+
+abbrev pub above : ℕ → ℕ → Limit → Option Limit
+above most n limit = then_some (nat_lt most n) limit
+
+abbrev pub first_some : {X : Type 0} → List (Option X) → Option X
+first_some [] = None
+first_some (o ∷ os) = option_or o (first_some os)
 
 abbrev pub limit_of : Totals → Option Limit
 limit_of t = first_some (

@@ -15,8 +15,7 @@ use Rattle.am_types.specs.Records.{Change, Limit, Verdict, Fits, SeqClash, SeqGa
 use Rattle.am_types.specs.Order.{hash_cmp, same}
 use Rattle.am_types.specs.Same.{same_bytes}
 use Rattle.am_types.specs.Operations.{operations, all_operations, max}
-use Rattle.am_types.specs.Limits.{first_some}
-use Rattle.am_types.specs.Totals.{totals_of, limit_of}
+use Rattle.am_types.specs.Totals.{totals_of, limit_of, first_some}
 use Rattle.am_types.specs.Members.{Member, changes}
 use Rattle.am_types.specs.Ancestors.{ancestors}
 use Rattle.am_types.specs.References.{first_bad}

@@ -1,6 +1,7 @@
 //! Actors: those who make changes.
 ghost use Rattle.std.specs.Prelude.{◌≡◌, ◌<◌, ◌↔◌, ◌⊎◌, length, IfOk};
 ghost use Rattle.am_types.specs.Actors.{IsActor};
+ghost use Rattle.am_types.specs.Limits.{longest_actor};
 
 use crate::byte_strings::same_actor;
 use crate::known::slice_known;
@@ -57,7 +58,7 @@ impl ActorId {
     pub fn of(alloc: Global, bytes: &[u8]) -> Result<ActorId, ActorFault>
         ensures ok { IfOk result (λ actor. actor ≡ bytes.now) }
         ensures allowed { IfOk result (λ actor. IsActor bytes.now) }
-        ensures length { (result ≡ Err ActorFault.Length) ↔ ((length bytes.now ≡ 0) ⊎ (1024 < length bytes.now)) }
+        ensures length { (result ≡ Err ActorFault.Length) ↔ ((length bytes.now ≡ 0) ⊎ (longest_actor < length bytes.now)) }
     {
         slice_known(bytes);
         if bytes.is_empty() || bytes.len() > LONGEST_ACTOR {

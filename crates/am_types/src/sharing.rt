@@ -1,6 +1,7 @@
 //! Actors that come again share their bytes.
 ghost use Rattle.std.specs.Prelude.{◌≡◌, ◌<◌, ◌↔◌, ◌⊎◌, length, IfOk, IfSome};
 ghost use Rattle.am_types.specs.Actors.{IsActor};
+ghost use Rattle.am_types.specs.Limits.{longest_actor};
 
 use crate::actor::{ActorFault, ActorId};
 use crate::byte_strings::same_actor;
@@ -76,7 +77,7 @@ impl SharedActors {
     pub fn of(&mut self, alloc: Global, bytes: &[u8]) -> Result<ActorId, ActorFault>
         ensures ok { IfOk result (λ actor. actor ≡ bytes.now) }
         ensures allowed { IfOk result (λ actor. IsActor bytes.now) }
-        ensures length { (result ≡ Err ActorFault.Length) ↔ ((length bytes.now ≡ 0) ⊎ (1024 < length bytes.now)) }
+        ensures length { (result ≡ Err ActorFault.Length) ↔ ((length bytes.now ≡ 0) ⊎ (longest_actor < length bytes.now)) }
     {
         if let Some(actor) = self.noted(bytes) {
             // (its bytes are an actor's)
@@ -92,7 +93,7 @@ impl SharedActors {
     fn sought(&mut self, alloc: Global, bytes: &[u8]) -> Result<ActorId, ActorFault>
         ensures ok { IfOk result (λ actor. actor ≡ bytes.now) }
         ensures allowed { IfOk result (λ actor. IsActor bytes.now) }
-        ensures length { (result ≡ Err ActorFault.Length) ↔ ((length bytes.now ≡ 0) ⊎ (1024 < length bytes.now)) }
+        ensures length { (result ≡ Err ActorFault.Length) ↔ ((length bytes.now ≡ 0) ⊎ (longest_actor < length bytes.now)) }
     {
         if let Some(place) = found(self.kept.as_slice(), bytes) {
             self.note(bytes, place);

@@ -1,5 +1,5 @@
 //! The rows of a document, of which only so much is read as tells what is shown.
-ghost use Rattle.std.specs.Prelude.{◌≡◌, ◌<◌, ◌≤◌, ◌^◌, ◌++◌, ◌∷◌, List, length, map, take, replicate, true, false, Some, IfSome, IfNone, pos, if◌then◌else◌};
+ghost use Rattle.std.specs.Prelude.{◌≡◌, ◌<◌, ◌≤◌, ◌++◌, ◌∷◌, List, length, map, take, replicate, true, false, Some, IfSome, IfNone, pos, if◌then◌else◌};
 ghost use Rattle.std.specs.List.{AllByRecursion};
 ghost use Rattle.am_types.specs.Actions as document_actions;
 ghost use Rattle.am_types.specs.declared.Key.{Key};
@@ -10,6 +10,7 @@ ghost use Rattle.am_types.specs.declared.Entry.{Entry};
 ghost use Rattle.am_types.specs.Values.{amount};
 ghost use Rattle.am_types.specs.Views.{entry_of, id_of, key_of, object_of, value_of};
 ghost use Rattle.am_types.specs.Letters.{IsRun};
+ghost use Rattle.am_types.specs.Limits.{most_operations};
 ghost use Rattle.am_view.specs.Reads.{is_counter_row};
 ghost use Rattle.am_view.specs.Seen.{seen_by};
 ghost use Rattle.am_view.specs.Steps.{ahead, later, tally, walk};
@@ -46,7 +47,7 @@ pub struct Scan<'a> {
 }
 
 impl<'a> Model for Scan<'a> {
-    ghost use Rattle.std.specs.Prelude.{List, length, map, ◌≡◌, ◌≤◌, ◌^◌};
+    ghost use Rattle.std.specs.Prelude.{List, length, map, ◌≡◌, ◌≤◌};
     ghost use Rattle.am_types.specs.declared.Row.{Row};
     ghost use Rattle.am_fields.specs.Layout.{flat};
     ghost use Rattle.am_doccols.specs.Rows.{rows_from};
@@ -63,7 +64,7 @@ impl<'a> Model for Scan<'a> {
         × (length s.succs ≡ length s.actions)
         × (length s.expands ≡ length s.actions)
         × (length s.marks ≡ length s.actions)
-        × (length (flat s.succs) ≤ 2 ^ 22)
+        × (length (flat s.succs) ≤ most_operations)
         × (s.lengths ≡ map length s.succs) };
 }
 
@@ -206,7 +207,7 @@ impl<'a> Scan<'a> {
         value: ValueRef<'a>,
         succs: &mut SuccCursor<'a>,
     ) -> Option<i128>
-        requires few { length succs.old ≤ 2 ^ 22 }
+        requires few { length succs.old ≤ most_operations }
         ensures rows { self.new ≡ self.old }
         ensures clock { clock.new ≡ clock.old }
         ensures total { result ≡ tally (seen_by clock.old) (amount (value_of value.entry)) succs.old (map later (ahead (object_of obj.entry) (key_of slot.entry) self.old)) }
@@ -228,7 +229,7 @@ impl<'a> Scan<'a> {
         value: ValueRef<'a>,
         succs: &mut SuccCursor<'a>,
     ) -> Option<i128>
-        requires few { length succs.old ≤ 2 ^ 22 }
+        requires few { length succs.old ≤ most_operations }
         ensures rows { self.new ≡ self.old }
         ensures clock { clock.new ≡ clock.old }
         ensures counter { (row : Row) → row.action ≡ action → row.value ≡ value_of value.entry → is_counter_row row ≡ true → result ≡ tally (seen_by clock.old) (amount (value_of value.entry)) succs.old (map later (ahead (object_of obj.entry) (key_of slot.entry) self.old)) }

@@ -1,8 +1,9 @@
 //! What tells whether a row is shown, and what a counter stands at.
-ghost use Rattle.std.specs.Prelude.{◌≡◌, ◌≤◌, ◌^◌, ◌∷◌, ◌+ℤ◌, List, length, true, false};
+ghost use Rattle.std.specs.Prelude.{◌≡◌, ◌≤◌, ◌∷◌, ◌+ℤ◌, List, length, true, false};
 ghost use Rattle.std.specs.List.{list_any};
 ghost use Rattle.am_types.specs.declared.Row.{Row};
 ghost use Rattle.am_types.specs.Views.{value_of};
+ghost use Rattle.am_types.specs.Limits.{most_operations};
 ghost use Rattle.am_view.specs.Borrowed.{coming};
 ghost use Rattle.am_view.specs.Reads.{gives_entry, is_counter_row};
 ghost use Rattle.am_view.specs.Seen.{seen_by};
@@ -31,7 +32,7 @@ pub fn is_any_covered<'a>(clock: &mut Asked<'a>, succs: &mut SuccCursor<'a>) -> 
 
 // A total and one increment more. They are few enough for 128 bits.
 fn sum(total: i128, more: i128) -> i128
-    requires total { IsBounded (2 ^ 22) total }
+    requires total { IsBounded most_operations total }
     requires more { IsBounded 1 more }
     ensures { result ≡ total +ℤ more }
 {
@@ -47,7 +48,7 @@ pub fn tallied<'a>(
     ahead: &mut Ahead<'a>,
 ) -> Option<i128>
     requires bounded { IsBounded 1 first }
-    requires few { length succs.old ≤ 2 ^ 22 }
+    requires few { length succs.old ≤ most_operations }
     ensures same { clock.new ≡ clock.old }
     ensures total { result ≡ tally (seen_by clock.old) first succs.old (coming ahead.old) }
 {
