@@ -17,16 +17,45 @@ use Rattle.am_types.specs.Order.{hash_cmp, Ascends}
 use Rattle.am_colmeta.specs.Metadata.{listing, body, Ascend}
 use Rattle.am_colmeta.specs.Judgement.{AreKnown}
 use Rattle.am_fields.specs.Limits.{IsShortActor}
+use Rattle.am_fields.specs.Specifications as row_column
 use Rattle.am_doccols.specs.Columns.{SpellsMetas, SpellsRows}
+use Rattle.am_doccols.specs.MetaSpecifications as meta_column
 use Rattle.am_doc.specs.declared.fault.DocFault.{DocFault}
 use Rattle.am_doc.specs.declared.fault.DocFault.TheVariants.{BadDocument, CompressedColumn}
 use Rattle.am_doc.specs.Fronts.{Front, front_bytes, IsFront, IsCompressed}
 
 abbrev pub meta_specifications : List ℕ
-meta_specifications = 1 ∷ 3 ∷ 19 ∷ 35 ∷ 53 ∷ 64 ∷ 67 ∷ 86 ∷ 87 ∷ []
+meta_specifications =
+    meta_column.author
+    ∷ meta_column.seq
+    ∷ meta_column.max
+    ∷ meta_column.time
+    ∷ meta_column.message
+    ∷ meta_column.dep_count
+    ∷ meta_column.dep_index
+    ∷ meta_column.extra_metadata
+    ∷ meta_column.extra_raw
+    ∷ []
 
 abbrev pub row_specifications : List ℕ
-row_specifications = 1 ∷ 2 ∷ 17 ∷ 19 ∷ 21 ∷ 33 ∷ 35 ∷ 52 ∷ 66 ∷ 86 ∷ 87 ∷ 128 ∷ 129 ∷ 131 ∷ 148 ∷ 165 ∷ []
+row_specifications =
+    row_column.object_actor
+    ∷ row_column.object_counter
+    ∷ row_column.key_actor
+    ∷ row_column.key_counter
+    ∷ row_column.key_name
+    ∷ row_column.id_actor
+    ∷ row_column.id_counter
+    ∷ row_column.insert
+    ∷ row_column.action
+    ∷ row_column.value_metadata
+    ∷ row_column.value_raw
+    ∷ row_column.succ_count
+    ∷ row_column.succ_actor
+    ∷ row_column.succ_counter
+    ∷ row_column.expand
+    ∷ row_column.mark
+    ∷ []
 
 pub record AreColumns (specifications : List ℕ) (columns : List (ℕ × List ℕ)) : Type 0 where
   pub ascend : Ascend (listing columns)

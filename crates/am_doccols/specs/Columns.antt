@@ -18,18 +18,20 @@ use Rattle.am_fields.specs.Columns.{Column, Actors, Deltas, Flags, RareFlags, Te
 use Rattle.am_fields.specs.Layout.{object_columns, key_columns, id_columns, value_columns, group_columns, index_columns, extra_columns, given, whole, flat}
 use Rattle.am_fields.specs.Limits.{IsWithin, IsObjectWithin, IsKeyWithin, IsShortActor, IsBelow, IsTime}
 use Rattle.am_fields.specs.Extras.{IsShortExtra}
+use Rattle.am_fields.specs.Specifications as specifications
+use Rattle.am_doccols.specs.MetaSpecifications as meta_specifications
 
 abbrev pub row_columns : List Row → List Column
 row_columns rows =
     object_columns (map (λ r. r.obj) rows)
     ++ key_columns (map (λ r. r.key) rows)
-    ++ id_columns 33 (map (λ r. r.id) rows)
-    ++ (52, Flags (map (λ r. r.insert) rows))
-    ∷ (66, given (map (λ r. r.action) rows))
+    ++ id_columns specifications.id_actor (map (λ r. r.id) rows)
+    ++ (specifications.insert, Flags (map (λ r. r.insert) rows))
+    ∷ (specifications.action, given (map (λ r. r.action) rows))
     ∷ value_columns Counts (map (λ r. r.value) rows)
-    ++ group_columns 128 Counts (map (λ r. r.succs) rows)
-    ++ (148, RareFlags (map (λ r. r.expand) rows))
-    ∷ (165, Texts (map (λ r. r.mark) rows))
+    ++ group_columns specifications.succ_count Counts (map (λ r. r.succs) rows)
+    ++ (specifications.expand, RareFlags (map (λ r. r.expand) rows))
+    ∷ (specifications.mark, Texts (map (λ r. r.mark) rows))
     ∷ []
 
 -- Each action is one of the eight, each value is good, and each id is within its limits. There are at most 2 ^ 22 rows,
@@ -50,12 +52,12 @@ pub record SpellsRows (actors : List (List ℕ)) (columns : List (ℕ × List �
 
 abbrev pub meta_columns : List Meta → List Column
 meta_columns metas =
-    (1, Actors (map Some (map (λ m. m.actor) metas)))
-    ∷ (3, Deltas (map whole (map (λ m. m.seq) metas)))
-    ∷ (19, Deltas (map whole (map (λ m. m.max) metas)))
-    ∷ (35, Times (map (λ m. m.time) metas))
-    ∷ (53, Messages (map (λ m. m.message) metas))
-    ∷ index_columns 64 (map (λ m. m.deps) metas)
+    (meta_specifications.author, Actors (map Some (map (λ m. m.actor) metas)))
+    ∷ (meta_specifications.seq, Deltas (map whole (map (λ m. m.seq) metas)))
+    ∷ (meta_specifications.max, Deltas (map whole (map (λ m. m.max) metas)))
+    ∷ (meta_specifications.time, Times (map (λ m. m.time) metas))
+    ∷ (meta_specifications.message, Messages (map (λ m. m.message) metas))
+    ∷ index_columns meta_specifications.dep_count (map (λ m. m.deps) metas)
     ++ extra_columns (map (λ m. m.extra) metas)
 
 -- There are at most 2 ^ 20 change rows, and at most 2 ^ 22 dependencies of all together. Each dependency is the place of

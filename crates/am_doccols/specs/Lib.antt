@@ -1,3 +1,4 @@
+pub mod MetaSpecifications
 pub mod Columns
 pub mod Rows
 pub mod Metas

@@ -5,41 +5,43 @@ use Rattle.std.specs.Prelude.{◌≡◌, ℕ, List, [], ◌∷◌, IfSome}
 use Rattle.am_delta.specs.Deltas.{CanonDeltas}
 use Rattle.am_values.specs.Columns.{CanonValues}
 use Rattle.am_fields.specs.Columns.{numbers_bytes, texts_bytes}
+use Rattle.am_fields.specs.Specifications as specifications
+use Rattle.am_doccols.specs.MetaSpecifications as meta_specifications
 use Rattle.am_doccols.specs.declared.meta_columns.MetaColumns.{MetaColumns}
 use Rattle.am_doccols.specs.declared.finished.RowText.{RowText}
 use Rattle.am_doccols.specs.declared.meta_finished.MetaText.{MetaText}
 
 abbrev pub row_texts : RowText → List (ℕ × List ℕ)
 row_texts text =
-    (1, text.fields.object_actor)
-    ∷ (2, text.fields.object_counter)
-    ∷ (17, text.fields.key_actor)
-    ∷ (19, text.fields.key_counter)
-    ∷ (21, text.fields.key_name)
-    ∷ (33, text.id_places)
-    ∷ (35, text.id_counters)
-    ∷ (52, text.fields.insert)
-    ∷ (66, text.fields.action)
-    ∷ (86, text.fields.numbers)
-    ∷ (87, text.fields.raw)
-    ∷ (128, text.lengths)
-    ∷ (129, text.succ_places)
-    ∷ (131, text.succ_counters)
-    ∷ (148, text.fields.expand)
-    ∷ (165, text.fields.mark)
+    (specifications.object_actor, text.fields.object_actor)
+    ∷ (specifications.object_counter, text.fields.object_counter)
+    ∷ (specifications.key_actor, text.fields.key_actor)
+    ∷ (specifications.key_counter, text.fields.key_counter)
+    ∷ (specifications.key_name, text.fields.key_name)
+    ∷ (specifications.id_actor, text.id_places)
+    ∷ (specifications.id_counter, text.id_counters)
+    ∷ (specifications.insert, text.fields.insert)
+    ∷ (specifications.action, text.fields.action)
+    ∷ (specifications.value_metadata, text.fields.numbers)
+    ∷ (specifications.value_raw, text.fields.raw)
+    ∷ (specifications.succ_count, text.lengths)
+    ∷ (specifications.succ_actor, text.succ_places)
+    ∷ (specifications.succ_counter, text.succ_counters)
+    ∷ (specifications.expand, text.fields.expand)
+    ∷ (specifications.mark, text.fields.mark)
     ∷ []
 
 abbrev pub meta_texts : MetaText → List (ℕ × List ℕ)
 meta_texts text =
-    (1, text.actor)
-    ∷ (3, text.seq)
-    ∷ (19, text.max)
-    ∷ (35, text.time)
-    ∷ (53, text.message)
-    ∷ (64, text.lengths)
-    ∷ (67, text.deps)
-    ∷ (86, text.numbers)
-    ∷ (87, text.raw)
+    (meta_specifications.author, text.actor)
+    ∷ (meta_specifications.seq, text.seq)
+    ∷ (meta_specifications.max, text.max)
+    ∷ (meta_specifications.time, text.time)
+    ∷ (meta_specifications.message, text.message)
+    ∷ (meta_specifications.dep_count, text.lengths)
+    ∷ (meta_specifications.dep_index, text.deps)
+    ∷ (meta_specifications.extra_metadata, text.numbers)
+    ∷ (meta_specifications.extra_raw, text.raw)
     ∷ []
 
 pub record MetasFinished (w : MetaColumns) (text : MetaText) : Type 0 where

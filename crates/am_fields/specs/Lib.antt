@@ -1,6 +1,7 @@
 pub mod Filling
 pub mod Extras
 pub mod Columns
+pub mod Specifications
 pub mod Layout
 pub mod Limits
 pub mod Actors

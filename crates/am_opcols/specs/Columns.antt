@@ -10,21 +10,37 @@ use Rattle.am_values.specs.Columns.{AllGood}
 use Rattle.am_fields.specs.Columns.{Column, Flags, RareFlags, Texts, SpellsColumns}
 use Rattle.am_fields.specs.Layout.{object_columns, key_columns, value_columns, group_columns, given, flat}
 use Rattle.am_fields.specs.Limits.{IsWithin, IsObjectWithin, IsKeyWithin}
+use Rattle.am_fields.specs.Specifications as specifications
 
 abbrev pub op_columns : List Op → List Column
 op_columns ops =
     object_columns (map (λ o. o.obj) ops)
     ++ key_columns (map (λ o. o.key) ops)
-    ++ (52, Flags (map (λ o. o.insert) ops))
-    ∷ (66, given (map (λ o. o.action) ops))
+    ++ (specifications.insert, Flags (map (λ o. o.insert) ops))
+    ∷ (specifications.action, given (map (λ o. o.action) ops))
     ∷ value_columns given (map (λ o. o.value) ops)
-    ++ group_columns 112 given (map (λ o. o.preds) ops)
-    ++ (148, RareFlags (map (λ o. o.expand) ops))
-    ∷ (165, Texts (map (λ o. o.mark) ops))
+    ++ group_columns specifications.pred_count given (map (λ o. o.preds) ops)
+    ++ (specifications.expand, RareFlags (map (λ o. o.expand) ops))
+    ∷ (specifications.mark, Texts (map (λ o. o.mark) ops))
     ∷ []
 
 abbrev pub op_specifications : List ℕ
-op_specifications = 1 ∷ 2 ∷ 17 ∷ 19 ∷ 21 ∷ 52 ∷ 66 ∷ 86 ∷ 87 ∷ 112 ∷ 113 ∷ 115 ∷ 148 ∷ 165 ∷ []
+op_specifications =
+    specifications.object_actor
+    ∷ specifications.object_counter
+    ∷ specifications.key_actor
+    ∷ specifications.key_counter
+    ∷ specifications.key_name
+    ∷ specifications.insert
+    ∷ specifications.action
+    ∷ specifications.value_metadata
+    ∷ specifications.value_raw
+    ∷ specifications.pred_count
+    ∷ specifications.pred_actor
+    ∷ specifications.pred_counter
+    ∷ specifications.expand
+    ∷ specifications.mark
+    ∷ []
 
 -- Each action is one of the eight, each value is good, and each id is within its limits. There are at most 2 ^ 22
 -- operations, and as many predecessors of all together.

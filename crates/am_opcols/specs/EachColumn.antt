@@ -20,6 +20,7 @@ use Rattle.am_colmeta.specs.Metadata.{column_at, listing, AreFilled}
 use Rattle.am_fields.specs.Actors.{IsListed}
 use Rattle.am_opcols.specs.Others.{actors_of}
 use Rattle.am_opcols.specs.Chains.{Chain}
+use Rattle.am_fields.specs.Specifications as specifications
 
 abbrev pub CanonicalNumbers : List ℕ → Type 0
 CanonicalNumbers bytes = (list : List (Option (List ℕ))) × Canon unsigned_end bytes list × (length list ≤ most_operations)
@@ -37,22 +38,22 @@ abbrev pub CanonicalMaybe : List ℕ → Type 0
 CanonicalMaybe bytes = (flags : List Bool) × CanonMaybe bytes flags × (length flags ≤ most_operations)
 
 pub record AreNumbersCanonical (columns : List (ℕ × List ℕ)) : Type 0 where
-  pub object_actor : CanonicalNumbers (column_at columns 1)
-  pub object_counter : CanonicalNumbers (column_at columns 2)
-  pub key_actor : CanonicalNumbers (column_at columns 17)
-  pub action : CanonicalNumbers (column_at columns 66)
-  pub value : CanonicalNumbers (column_at columns 86)
-  pub count : CanonicalNumbers (column_at columns 112)
-  pub pred_actor : CanonicalNumbers (column_at columns 113)
+  pub object_actor : CanonicalNumbers (column_at columns specifications.object_actor)
+  pub object_counter : CanonicalNumbers (column_at columns specifications.object_counter)
+  pub key_actor : CanonicalNumbers (column_at columns specifications.key_actor)
+  pub action : CanonicalNumbers (column_at columns specifications.action)
+  pub value : CanonicalNumbers (column_at columns specifications.value_metadata)
+  pub count : CanonicalNumbers (column_at columns specifications.pred_count)
+  pub pred_actor : CanonicalNumbers (column_at columns specifications.pred_actor)
 
 pub record AreRemainingCanonical (columns : List (ℕ × List ℕ)) : Type 0 where
-  pub key_counter : CanonicalDeltas (column_at columns 19)
-  pub pred_counter : CanonicalDeltas (column_at columns 115)
-  pub key_name : CanonicalTexts (column_at columns 21)
-  pub mark : CanonicalTexts (column_at columns 165)
-  pub insert : CanonicalFlags (column_at columns 52)
-  pub insert_stands : column_at columns 52 ≡ [] → column_at columns 66 ≡ []
-  pub expand : CanonicalMaybe (column_at columns 148)
+  pub key_counter : CanonicalDeltas (column_at columns specifications.key_counter)
+  pub pred_counter : CanonicalDeltas (column_at columns specifications.pred_counter)
+  pub key_name : CanonicalTexts (column_at columns specifications.key_name)
+  pub mark : CanonicalTexts (column_at columns specifications.mark)
+  pub insert : CanonicalFlags (column_at columns specifications.insert)
+  pub insert_stands : column_at columns specifications.insert ≡ [] → column_at columns specifications.action ≡ []
+  pub expand : CanonicalMaybe (column_at columns specifications.expand)
 
 pub record ArePlain (author : List ℕ) (actors : List (List ℕ)) (columns : List (ℕ × List ℕ)) : Type 0 where
   pub filled : AreFilled (listing columns)

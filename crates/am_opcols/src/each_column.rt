@@ -1,6 +1,7 @@
 //! Whether columns are as their writer leaves them. It takes no memory.
 ghost use Rattle.std.specs.Prelude.{◌≡◌, ◌↔◌, [], IsTrue};
 ghost use Rattle.am_colmeta.specs.Metadata.{column_at};
+ghost use Rattle.am_fields.specs.Specifications.{insert as insert_column, action as action_column};
 ghost use Rattle.am_opcols.specs.EachColumn.{CanonicalNumbers, CanonicalTexts, CanonicalDeltas, CanonicalFlags, CanonicalMaybe, AreNumbersCanonical, AreRemainingCanonical};
 
 use crate::found::OpColumns;
@@ -46,7 +47,7 @@ fn has_bytes(columns: &OpColumns<'_>, specification: u64) -> bool
 
 // The insert flags are written wherever there is an action.
 fn inserts_stand(columns: &OpColumns<'_>) -> bool
-    ensures { IsTrue result ↔ (column_at columns.now 52 ≡ [] → column_at columns.now 66 ≡ []) }
+    ensures { IsTrue result ↔ (column_at columns.now insert_column ≡ [] → column_at columns.now action_column ≡ []) }
 {
     has_bytes(columns, specifications::INSERT) || !has_bytes(columns, specifications::ACTION)
 }
