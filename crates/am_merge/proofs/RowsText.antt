@@ -13,6 +13,7 @@ use Rattle.am_types.specs.declared.Row.{Row}
 use Rattle.am_types.specs.Members.{Member, changes}
 use Rattle.am_types.specs.Operations.{Operation, operation_cmp, all_operations, ascending}
 use Rattle.am_types.specs.ValidSets.{IsValidSet}
+use Rattle.am_types.specs.Limits.{most_operations}
 use Rattle.am_types.proofs.Permuted.{operation_total}
 use Rattle.am_types.proofs.Rising.{Rises-sorted_by, sorted_by-rising}
 use Rattle.am_places.specs.Rising.{Rise}
@@ -94,18 +95,18 @@ module _ (C E : List Member) (actors : List (List ℕ)) (rs : List Row) (cs : Li
       let f = g.few in
       omega arith
 
-  pub gives : carried (walked A rs 4194304 (beginning A)) rs ≡ rows_in (C ++ E)
+  pub gives : carried (walked A rs most_operations (beginning A)) rs ≡ rows_in (C ++ E)
   gives =
-      ap (λ l. carried (walked A l 4194304 (beginning A)) l) g.rows_are
-      ∙ (walks_rows C E g.smaller g.larger).told 4194304 (let f = g.few in omega arith)
+      ap (λ l. carried (walked A l most_operations (beginning A)) l) g.rows_are
+      ∙ (walks_rows C E g.smaller g.larger).told most_operations (let f = g.few in omega arith)
 
-  pub can : (es : List Event) → es ≡ walked A rs 4194304 (beginning A) → CanCarry actors (Some []) es rs
+  pub can : (es : List Event) → es ≡ walked A rs most_operations (beginning A) → CanCarry actors (Some []) es rs
   can es e =
       let made : carried es rs ≡ rows_in (C ++ E) = ap (λ l. carried l rs) e ∙ gives in
       record {
         rows = [];
         are_written = refl;
-        enough = let t = ap taking e ∙ walked_takes A rs 4194304 (beginning A) in omega arith;
+        enough = let t = ap taking e ∙ walked_takes A rs most_operations (beginning A) in omega arith;
         fit = subst (AllByRecursion (IsRowFor actors)) (sym made) g.fit;
         room = subst (HasRoomFor []) (sym made) (record { few = let f = g.few in omega arith; few_succs = let f = g.few_succs in omega arith });
       }
@@ -128,11 +129,11 @@ module _ (C E : List Member) (actors : List (List ℕ)) (rs : List Row) (cs : Li
     pub are_few : length D ≤ 2 ^ 22
     are_few = subst (λ D. length D ≤ 2 ^ 22) (sym are_all) (added_few C E g.larger)
 
-    pub can_walk : CanCarry actors (Some []) (walked D rs 4194304 (beginning D)) rs
-    can_walk = can (walked D rs 4194304 (beginning D)) (ap (λ D. walked D rs 4194304 (beginning D)) are_all)
+    pub can_walk : CanCarry actors (Some []) (walked D rs most_operations (beginning D)) rs
+    can_walk = can (walked D rs most_operations (beginning D)) (ap (λ D. walked D rs most_operations (beginning D)) are_all)
 
-    pub made : carried (walked D rs 4194304 (beginning D)) rs ≡ rows_in (C ++ E)
-    made = ap (λ D. carried (walked D rs 4194304 (beginning D)) rs) are_all ∙ gives
+    pub made : carried (walked D rs most_operations (beginning D)) rs ≡ rows_in (C ++ E)
+    made = ap (λ D. carried (walked D rs most_operations (beginning D)) rs) are_all ∙ gives
 
 -- ---- the text
 

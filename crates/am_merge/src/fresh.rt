@@ -85,9 +85,9 @@ fn put_all<'a>(
     requires named { Tells means_id (map operation_of operations.now) (predecessors (map operation_of operations.now)) named.now }
     requires hung { Tells means_element (map operation_of operations.now) (references (hanging (map operation_of operations.now))) hung.now }
     requires start { writer.old.1 ≡ Some [] }
-    requires can { CanCarry writer.old.0 writer.old.1 (walk_out (map operation_of operations.now) 4194304 (beginning (map operation_of operations.now))) [] }
+    requires can { CanCarry writer.old.0 writer.old.1 (walk_out (map operation_of operations.now) most_operations (beginning (map operation_of operations.now))) [] }
     ensures actors { OnOk result (writer.new.0 ≡ writer.old.0) }
-    ensures rows { OnOk result (writer.new.1 ≡ Some (carried (walk_out (map operation_of operations.now) 4194304 (beginning (map operation_of operations.now))) [])) }
+    ensures rows { OnOk result (writer.new.1 ≡ Some (carried (walk_out (map operation_of operations.now) most_operations (beginning (map operation_of operations.now))) [])) }
 {
     let mut room = Vec::new(alloc);
     let mut left = MOST_OPERATIONS;
@@ -175,9 +175,9 @@ pub fn fresh_text<'a>(
     requires few { length operations.now ≤ most_operations }
     requires ascends { ascending (map operation_of operations.now) ≡ map operation_of operations.now }
     requires distinct { HaveDistinctPreds (map operation_of operations.now) }
-    requires can { CanCarry actors.now (Some []) (walk_out (map operation_of operations.now) 4194304 (beginning (map operation_of operations.now))) [] }
-    ensures metadata { IfOk result (λ text. text.0 ≡ metadata (listing (written_rows actors.now (carried (walk_out (map operation_of operations.now) 4194304 (beginning (map operation_of operations.now))) [])))) }
-    ensures body { IfOk result (λ text. text.1 ≡ body (written_rows actors.now (carried (walk_out (map operation_of operations.now) 4194304 (beginning (map operation_of operations.now))) []))) }
+    requires can { CanCarry actors.now (Some []) (walk_out (map operation_of operations.now) most_operations (beginning (map operation_of operations.now))) [] }
+    ensures metadata { IfOk result (λ text. text.0 ≡ metadata (listing (written_rows actors.now (carried (walk_out (map operation_of operations.now) most_operations (beginning (map operation_of operations.now))) [])))) }
+    ensures body { IfOk result (λ text. text.1 ≡ body (written_rows actors.now (carried (walk_out (map operation_of operations.now) most_operations (beginning (map operation_of operations.now))) []))) }
 {
     let mut known = known_of(alloc, operations)?;
     let mut writer = RowGatherer::new(alloc, actors)?;

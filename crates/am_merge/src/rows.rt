@@ -52,7 +52,7 @@ fn start<'a>(alloc: Global, operations: &[Numbered<'a>]) -> Result<Walk<'a>, All
     requires ascends { ascending (map operation_of operations.now) ≡ map operation_of operations.now }
     requires few { length operations.now ≤ most_operations }
     ensures few { IfOk result (λ w. w.skipped ≡ 0) }
-    ensures left { IfOk result (λ w. w.left ≡ 4194304) }
+    ensures left { IfOk result (λ w. w.left ≡ most_operations) }
     ensures waiting { IfOk result (λ w. waiting_of w ≡ beginning (map operation_of operations.now)) }
     ensures none { IfOk result (λ w. (named : List Naming) → done_in named w ≡ []) }
 {
@@ -76,7 +76,7 @@ fn walk_all<'a>(
     requires few_added { length operations.now ≤ most_operations }
     requires few { length rows.now ≤ most_operations }
     ensures { IfOk result (λ w. AreTables (map operation_of operations.now) tables.now
-        → done_in tables.now.named.items w ≡ walked (map operation_of operations.now) rows.now 4194304 (beginning (map operation_of operations.now))) }
+        → done_in tables.now.named.items w ≡ walked (map operation_of operations.now) rows.now most_operations (beginning (map operation_of operations.now))) }
 {
     let mut walk = start(alloc, operations)?;
     walk_rows(alloc, &mut walk, tables, rows)?;
@@ -94,9 +94,9 @@ fn walked_text<'a>(
     requires tables { AreTables (map operation_of operations.now) tables.now }
     requires few_added { length operations.now ≤ most_operations }
     requires few { length rows.now ≤ most_operations }
-    requires can { CanCarry actors.now (Some []) (walked (map operation_of operations.now) rows.now 4194304 (beginning (map operation_of operations.now))) rows.now }
-    ensures metadata { IfOk result (λ text. text.0 ≡ metadata (listing (written_rows actors.now (carried (walked (map operation_of operations.now) rows.now 4194304 (beginning (map operation_of operations.now))) rows.now)))) }
-    ensures body { IfOk result (λ text. text.1 ≡ body (written_rows actors.now (carried (walked (map operation_of operations.now) rows.now 4194304 (beginning (map operation_of operations.now))) rows.now))) }
+    requires can { CanCarry actors.now (Some []) (walked (map operation_of operations.now) rows.now most_operations (beginning (map operation_of operations.now))) rows.now }
+    ensures metadata { IfOk result (λ text. text.0 ≡ metadata (listing (written_rows actors.now (carried (walked (map operation_of operations.now) rows.now most_operations (beginning (map operation_of operations.now))) rows.now)))) }
+    ensures body { IfOk result (λ text. text.1 ≡ body (written_rows actors.now (carried (walked (map operation_of operations.now) rows.now most_operations (beginning (map operation_of operations.now))) rows.now))) }
 {
     let walk = walk_all(alloc, operations, tables, rows)?;
     carried_text(
@@ -121,9 +121,9 @@ fn text_with<'a>(
     requires few_added { length operations.now ≤ most_operations }
     requires distinct { HaveDistinctPreds (map operation_of operations.now) }
     requires few { length rows.now ≤ most_operations }
-    requires can { CanCarry actors.now (Some []) (walked (map operation_of operations.now) rows.now 4194304 (beginning (map operation_of operations.now))) rows.now }
-    ensures metadata { IfOk result (λ text. text.0 ≡ metadata (listing (written_rows actors.now (carried (walked (map operation_of operations.now) rows.now 4194304 (beginning (map operation_of operations.now))) rows.now)))) }
-    ensures body { IfOk result (λ text. text.1 ≡ body (written_rows actors.now (carried (walked (map operation_of operations.now) rows.now 4194304 (beginning (map operation_of operations.now))) rows.now))) }
+    requires can { CanCarry actors.now (Some []) (walked (map operation_of operations.now) rows.now most_operations (beginning (map operation_of operations.now))) rows.now }
+    ensures metadata { IfOk result (λ text. text.0 ≡ metadata (listing (written_rows actors.now (carried (walked (map operation_of operations.now) rows.now most_operations (beginning (map operation_of operations.now))) rows.now)))) }
+    ensures body { IfOk result (λ text. text.1 ≡ body (written_rows actors.now (carried (walked (map operation_of operations.now) rows.now most_operations (beginning (map operation_of operations.now))) rows.now))) }
 {
     if rows.left() == 0 {
         return fresh_text(alloc, actors, operations);

@@ -1,5 +1,6 @@
 use Rattle.std.proofs.Common.{◌∙◌, [], map, refl}
 use Rattle.std.proofs.lemmas.Result.{IfOk-weaker}
+use Rattle.am_types.specs.Limits.{most_operations}
 use Rattle.am_places.specs.Numbered.{operation_of}
 use Rattle.am_colmeta.specs.Metadata.{metadata, listing, body}
 use Rattle.am_doccols.specs.Columns.{written_rows}
@@ -22,13 +23,13 @@ put_all-all-requires c =
       places = c.in_ok-known.ensures.places;
       within = c.in_ok-known.ensures.within;
       start = c.in_ok-writer.ensures.rows;
-      can = can_start c.args.actors.now c.in_ok-writer.writer.0 c.in_ok-writer.writer.1 (walk_out A 4194304 (beginning A)) [] [] c.in_ok-writer.ensures.actors c.in_ok-writer.ensures.rows refl c.requires.can;
+      can = can_start c.args.actors.now c.in_ok-writer.writer.0 c.in_ok-writer.writer.1 (walk_out A most_operations (beginning A)) [] [] c.in_ok-writer.ensures.actors c.in_ok-writer.ensures.rows refl c.requires.can;
     }
 
 pub returns-in-Ok-clause-metadata : goal.returns-in-Ok-clause-metadata
 returns-in-Ok-clause-metadata c =
     let A = map operation_of c.args.operations.now in
-    let rows = carried (walk_out A 4194304 (beginning A)) [] in
+    let rows = carried (walk_out A most_operations (beginning A)) [] in
     IfOk-weaker c.finish-text.result _ _
     (λ text h. is_text (λ a rs. metadata (listing (written_rows a rs))) text.0 c.args.actors.now c.put_all-all.new.writer.0 c.put_all-all.new.writer.1 rows rows (c.in-Ok.ensures.actors ∙ c.in_ok-writer.ensures.actors) c.in-Ok.ensures.rows refl h)
     c.finish-text.ensures.metadata
@@ -36,7 +37,7 @@ returns-in-Ok-clause-metadata c =
 pub returns-in-Ok-clause-body : goal.returns-in-Ok-clause-body
 returns-in-Ok-clause-body c =
     let A = map operation_of c.args.operations.now in
-    let rows = carried (walk_out A 4194304 (beginning A)) [] in
+    let rows = carried (walk_out A most_operations (beginning A)) [] in
     IfOk-weaker c.finish-text.result _ _
     (λ text h. is_text (λ a rs. body (written_rows a rs)) text.1 c.args.actors.now c.put_all-all.new.writer.0 c.put_all-all.new.writer.1 rows rows (c.in-Ok.ensures.actors ∙ c.in_ok-writer.ensures.actors) c.in-Ok.ensures.rows refl h)
     c.finish-text.ensures.body

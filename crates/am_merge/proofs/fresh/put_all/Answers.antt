@@ -1,6 +1,7 @@
 use Rattle.std.proofs.Common.{◌≡◌, ◌-◌, ◌∙◌, ◌++◌, ◌∷◌, [], List, ap, arith, inl, inr, length, map, refl, subst, sym}
 use Rattle.std.specs.Option.{IfSome}
 use Rattle.am_types.specs.declared.Row.{Row}
+use Rattle.am_types.specs.Limits.{most_operations}
 use Rattle.am_places.specs.Numbered.{operation_of}
 use Rattle.am_merge.specs.Aims.{one_at, stacked_at}
 use Rattle.am_merge.specs.Carrying.{CanCarry}
@@ -15,12 +16,12 @@ use Rattle.am_merge.proofs.fresh.put_all.Goals as goal
 pub rest-init : goal.rest-init
 rest-init c =
     let A = map operation_of c.args.operations.now in
-    let total : List Row = carried (walk_out A 4194304 (beginning A)) [] in
+    let total : List Row = carried (walk_out A most_operations (beginning A)) [] in
     record {
       actors = refl;
       within = c.requires.within;
-      can = subst (λ ws. CanCarry c.args.writer.now.0 c.args.writer.now.1 (walk_out A 4194304 ws) []) (sym c.requires.places) c.requires.can;
-      whole = subst (λ ws. IfSome c.args.writer.now.1 (λ done. done ++ carried (walk_out A 4194304 ws) [] ≡ total)) (sym c.requires.places) (whole_start c.args.writer.now.1 (walk_out A 4194304 (beginning A)) [] [] c.requires.start refl);
+      can = subst (λ ws. CanCarry c.args.writer.now.0 c.args.writer.now.1 (walk_out A most_operations ws) []) (sym c.requires.places) c.requires.can;
+      whole = subst (λ ws. IfSome c.args.writer.now.1 (λ done. done ++ carried (walk_out A most_operations ws) [] ≡ total)) (sym c.requires.places) (whole_start c.args.writer.now.1 (walk_out A most_operations (beginning A)) [] [] c.requires.start refl);
     }
 
 pub put_at-requires : goal.put_at-requires
@@ -71,13 +72,13 @@ rest-preserved c =
 pub returns-in_default-clause-rows : goal.returns-in_default-clause-rows
 returns-in_default-clause-rows c =
     let A = map operation_of c.args.operations.now in
-    let total : List Row = carried (walk_out A 4194304 (beginning A)) [] in
+    let total : List Row = carried (walk_out A most_operations (beginning A)) [] in
     all_put c.rest.writer.0 c.rest.writer.1 (walk_out A c.rest.left (stacked_at A c.rest.waiting.items)) total c.rest.invariant.can
     (none_left_over A c.rest.left (stacked_at A c.rest.waiting.items) (inr (none_at A c.rest.waiting.items (omega (arith, c.rest.waiting.ok.0, c.in_default.ensures.cases.0))))) c.rest.invariant.whole
 
 pub returns-clause-rows : goal.returns-clause-rows
 returns-clause-rows c =
     let A = map operation_of c.args.operations.now in
-    let total : List Row = carried (walk_out A 4194304 (beginning A)) [] in
+    let total : List Row = carried (walk_out A most_operations (beginning A)) [] in
     all_put c.rest.writer.0 c.rest.writer.1 (walk_out A c.rest.left (stacked_at A c.rest.waiting.items)) total c.rest.invariant.can
     (none_left_over A c.rest.left (stacked_at A c.rest.waiting.items) (inl (omega (arith, c.rest-test.false)))) c.rest.invariant.whole

@@ -1,5 +1,6 @@
 use Rattle.std.proofs.Common.{◌≡◌, ◌<◌, ◌++◌, [], All, length, map}
 use Rattle.std.specs.Option.{IfSome}
+use Rattle.am_types.specs.Limits.{most_operations}
 use Rattle.am_places.specs.Numbered.{operation_of}
 use Rattle.am_merge.specs.Carrying.{CanCarry}
 use Rattle.am_merge.specs.Plans.{carried}
@@ -13,7 +14,7 @@ invariant-rest l = record {
   within : All (λ k. k < length l.operations) l.waiting.items;
   can : CanCarry l.writer.0 l.writer.1 (walk_out (map operation_of l.operations) l.left (stacked_at (map operation_of l.operations) l.waiting.items)) [];
   whole : IfSome l.writer.1 (λ done. done ++ carried (walk_out (map operation_of l.operations) l.left (stacked_at (map operation_of l.operations) l.waiting.items)) []
-      ≡ carried (walk_out (map operation_of l.operations) 4194304 (beginning (map operation_of l.operations))) []);
+      ≡ carried (walk_out (map operation_of l.operations) most_operations (beginning (map operation_of l.operations))) []);
 }
 
 abbrev pub decreases-rest : goal.decreases-rest
