@@ -434,3 +434,6 @@ impl Twin for Store {
         })
     }
 }
+
+#[cfg(test)]
+mod tests;
