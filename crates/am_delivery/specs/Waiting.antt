@@ -4,17 +4,19 @@
 --     remaining hs W      the members of W whose hashes aren't among hs
 --     taken_out hs W      the members that leave W where those with the hashes hs are taken out, one after another
 --     all_gone g          the hashes of the changes that wait no longer
+--     sets C W rejected   the closed and the waiting members, beside what was rejected
 --     AreLent cs hs W     cs are the changes of the members of W with the hashes hs, lent, in this order
 --     IsTracked C W o     what the members of W lack beside the closed set C is as `o` has it, where it has anything
-use Rattle.std.specs.Prelude.{◌≡◌, List, [], ◌∷◌, ◌++◌, map, filter, not, Option, Some, IfSome, option_map, vec_items}
+use Rattle.std.specs.Prelude.{◌≡◌, List, [], ◌∷◌, ◌++◌, map, filter, not, Option, Some, IfSome, option_map, Vec, vec_items}
 use denote.Ref.{Bor}
 use Rattle.std.specs.BTreeMap.{BTreeMap}
-use Rattle.std.specs.Global.{Box}
+use Rattle.std.specs.Global.{Global, Box}
 use Rattle.am_types.specs.declared.Hash.{Hash}
 use Rattle.am_types.specs.declared.Change.{Change}
+use Rattle.am_types.specs.declared.Rejected.{Rejected}
 use Rattle.am_types.specs.Order.{hash_cmp, same, among}
 use Rattle.am_types.specs.Members.{Member, member}
-use Rattle.am_types.specs.Deliver.{without}
+use Rattle.am_types.specs.Deliver.{Sets, without}
 use Rattle.am_delivery.specs.Tracking.{Tracks}
 use Rattle.am_delivery.specs.Views.{tracker}
 use Rattle.am_delivery.specs.declared.admitting.Gone.{Gone}
@@ -44,6 +46,9 @@ taken_out (h ∷ hs) W = filter (λ m. same hash_cmp h m.hash) W ++ taken_out hs
 
 abbrev pub all_gone : Gone → List Hash
 all_gone g = vec_items g.joined ++ vec_items g.turned_away
+
+abbrev pub sets : List Member → List Member → Vec Rejected Global → Sets
+sets C W rejected = record { closed = C; waiting = W; rejected = vec_items rejected }
 
 abbrev pub AreLent : List (Bor Change) → List Hash → List Member → Type 0
 AreLent cs hs W = map (λ c. Some c.now) cs ≡ map (λ h. option_map (λ m. m.change) (member W h)) hs

@@ -5,7 +5,7 @@ ghost use Rattle.am_types.specs.ValidSets.{Valid};
 ghost use Rattle.am_types.specs.Deliver.{Sets, TakesOne, IsSettled, Waits, admit_by, turned_away, settle};
 ghost use Rattle.am_delivery.specs.Tracking.{Tracks};
 ghost use Rattle.am_delivery.specs.Views.{tracker};
-ghost use Rattle.am_delivery.specs.Waiting.{waiting_of, remaining, taken_out, all_gone, AreLent};
+ghost use Rattle.am_delivery.specs.Waiting.{waiting_of, remaining, taken_out, all_gone, sets, AreLent};
 
 use crate::closed::Closed;
 use crate::pending::Pending;
@@ -51,8 +51,8 @@ fn admit_next<'a, S: Closed>(
     requires valid { Valid (S.members closed.old) }
     requires waits { All (Waits (S.members closed.old)) (remaining (all_gone gone.old) (waiting_of waiting.now)) }
     ensures tracks { IfOk result (λ taken. Tracks (S.members closed.new) (remaining (all_gone gone.new) (waiting_of waiting.now)) (tracker pending.new)) }
-    ensures one { let old : Sets = record { closed = S.members closed.old; waiting = remaining (all_gone gone.old) (waiting_of waiting.now); rejected = vec_items rejected.old } in
-        let new : Sets = record { closed = S.members closed.new; waiting = remaining (all_gone gone.new) (waiting_of waiting.now); rejected = vec_items rejected.new } in
+    ensures one { let old = sets (S.members closed.old) (remaining (all_gone gone.old) (waiting_of waiting.now)) rejected.old in
+        let new = sets (S.members closed.new) (remaining (all_gone gone.new) (waiting_of waiting.now)) rejected.new in
         IfOk result (λ taken. MatchBool taken (TakesOne old new) ((new ≡ old) × IsSettled old)) }
     ensures joined { OnOk result ((C : List Member) → S.members closed.old ≡ C ++ taken_out (vec_items gone.old.joined) (waiting_of waiting.now) → S.members closed.new ≡ C ++ taken_out (vec_items gone.new.joined) (waiting_of waiting.now)) }
     ensures named { OnOk result (hashes (taken_out (vec_items gone.old.joined) (waiting_of waiting.now)) ≡ vec_items gone.old.joined → hashes (taken_out (vec_items gone.new.joined) (waiting_of waiting.now)) ≡ vec_items gone.new.joined) }
@@ -97,8 +97,7 @@ pub fn settle_all<'a, S: Closed>(
     requires valid { Valid (S.members closed.old) }
     requires waits { All (Waits (S.members closed.old)) (waiting_of waiting.now) }
     requires none { lent.old.items ≡ [] }
-    ensures settles { let old : Sets = record { closed = S.members closed.old; waiting = waiting_of waiting.now; rejected = vec_items rejected.old } in
-        IfOk result (λ gone. ◌≡◌ {A = Sets} (record { closed = S.members closed.new; waiting = remaining (all_gone gone) (waiting_of waiting.now); rejected = vec_items rejected.new }) (settle old)) }
+    ensures settles { IfOk result (λ gone. sets (S.members closed.new) (remaining (all_gone gone) (waiting_of waiting.now)) rejected.new ≡ settle (sets (S.members closed.old) (waiting_of waiting.now) rejected.old)) }
     ensures tracks { IfOk result (λ gone. Tracks (S.members closed.new) (remaining (all_gone gone) (waiting_of waiting.now)) (tracker pending.new)) }
     ensures joined { IfOk result (λ gone. S.members closed.new ≡ S.members closed.old ++ taken_out (vec_items gone.joined) (waiting_of waiting.now)) }
     ensures named { IfOk result (λ gone. hashes (taken_out (vec_items gone.joined) (waiting_of waiting.now)) ≡ vec_items gone.joined) }

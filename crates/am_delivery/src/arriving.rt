@@ -5,10 +5,10 @@ ghost use Rattle.am_types.specs.Fine.{Fine};
 ghost use Rattle.am_types.specs.Order.{hash_cmp};
 ghost use Rattle.am_types.specs.Members.{member, holds};
 ghost use Rattle.am_types.specs.Same.{same_change};
-ghost use Rattle.am_types.specs.Deliver.{Sets, MayCome, AreStored, Alike, receive};
+ghost use Rattle.am_types.specs.Deliver.{MayCome, AreStored, Alike, receive};
 ghost use Rattle.am_delivery.specs.Tracking.{Tracks};
 ghost use Rattle.am_delivery.specs.Views.{tracker};
-ghost use Rattle.am_delivery.specs.Waiting.{members_of, unboxed, waiting_of, remaining};
+ghost use Rattle.am_delivery.specs.Waiting.{members_of, unboxed, waiting_of, remaining, sets};
 
 use crate::closed::Closed;
 use crate::pending::Pending;
@@ -108,9 +108,8 @@ fn receive_one<S: Closed>(
     requires rest { S.members closed.now ≡ S.base closed.now }
     requires fine { Fine change }
     requires tracks { Tracks (S.members closed.now) (waiting_of waiting.old) (tracker pending.old) }
-    ensures alike { let old : Sets = record { closed = S.members closed.now; waiting = waiting_of waiting.old; rejected = vec_items rejected.old } in
-        let new : Sets = record { closed = S.members closed.now; waiting = waiting_of waiting.new; rejected = vec_items rejected.new } in
-        OnOk result (Alike (receive old (record { hash = hash; change = change } ∷ [])) new) }
+    ensures alike { OnOk result (Alike (receive (sets (S.members closed.now) (waiting_of waiting.old) rejected.old) (record { hash = hash; change = change } ∷ []))
+        (sets (S.members closed.now) (waiting_of waiting.new) rejected.new)) }
     ensures tracks { OnOk result (Tracks (S.members closed.now) (waiting_of waiting.new) (tracker pending.new)) }
     ensures kept { remaining (vec_items came.new) (waiting_of waiting.new) ≡ remaining (vec_items came.old) (waiting_of waiting.old) }
 {
@@ -139,9 +138,8 @@ pub fn receive_all<S: Closed>(
     requires stored { AreStored (S.members closed.now) (waiting_of waiting.old) }
     requires may_come { All MayCome (members_of (vec_items changes)) }
     requires tracks { Tracks (S.members closed.now) (waiting_of waiting.old) (tracker pending.old) }
-    ensures alike { let old : Sets = record { closed = S.members closed.now; waiting = waiting_of waiting.old; rejected = vec_items rejected.old } in
-        let new : Sets = record { closed = S.members closed.now; waiting = waiting_of waiting.new; rejected = vec_items rejected.new } in
-        OnOk result (Alike (receive old (members_of (vec_items changes))) new) }
+    ensures alike { OnOk result (Alike (receive (sets (S.members closed.now) (waiting_of waiting.old) rejected.old) (members_of (vec_items changes)))
+        (sets (S.members closed.now) (waiting_of waiting.new) rejected.new)) }
     ensures tracks { OnOk result (Tracks (S.members closed.now) (waiting_of waiting.new) (tracker pending.new)) }
     ensures kept { remaining (vec_items came.new) (waiting_of waiting.new) ≡ remaining (vec_items came.old) (waiting_of waiting.old) }
 {

@@ -1,10 +1,10 @@
 //! A whole delivery.
 ghost use Rattle.std.specs.Prelude.{◌≡◌, ◌≤◌, ◌+◌, ◌++◌, [], All, IfOk, IfSome, OnOk, OnErr, IsPermutation, None, length, vec_capacity, vec_items, vec_len};
-ghost use Rattle.am_types.specs.Deliver.{Sets, MayCome, AreStored, Waits, settle, deliver as delivered};
+ghost use Rattle.am_types.specs.Deliver.{MayCome, AreStored, Waits, settle, deliver as delivered};
 ghost use Rattle.am_types.specs.ValidSets.{Valid};
 ghost use Rattle.am_delivery.specs.Tracking.{Tracks};
 ghost use Rattle.am_delivery.specs.Views.{tracker};
-ghost use Rattle.am_delivery.specs.Waiting.{members_of, unboxed, waiting_of, remaining, taken_out, all_gone, IsTracked};
+ghost use Rattle.am_delivery.specs.Waiting.{members_of, unboxed, waiting_of, remaining, taken_out, all_gone, sets, IsTracked};
 
 use crate::admitting::{Gone, settle_all};
 use crate::arriving::{lacking, receive_all};
@@ -94,8 +94,7 @@ fn bring_to_rest<S: Closed>(
     requires valid { Valid (S.members closed.old) }
     requires waits { All (Waits (S.members closed.old)) (waiting_of waiting.now) }
     requires admitted { All S.admits (waiting_of waiting.now) }
-    ensures settles { let old : Sets = record { closed = S.members closed.old; waiting = waiting_of waiting.now; rejected = vec_items rejected } in
-        IfOk result (λ o. ◌≡◌ {A = Sets} (record { closed = S.members closed.new; waiting = remaining (all_gone o.gone) (waiting_of waiting.now); rejected = vec_items o.rejected }) (settle old)) }
+    ensures settles { IfOk result (λ o. sets (S.members closed.new) (remaining (all_gone o.gone) (waiting_of waiting.now)) o.rejected ≡ settle (sets (S.members closed.old) (waiting_of waiting.now) rejected)) }
     ensures joined { IfOk result (λ o. S.members closed.new ≡ S.members closed.old ++ taken_out (vec_items o.gone.joined) (waiting_of waiting.now)) }
     ensures empty { IfOk result (λ o. vec_items o.room ≡ []) }
     ensures room { IfOk result (λ o. vec_len o.room + length (vec_items o.gone.joined) ≤ vec_capacity o.room) }
