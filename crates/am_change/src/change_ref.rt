@@ -1,6 +1,5 @@
 //! A change that is lent from the contents of its chunk.
 ghost use Rattle.std.specs.Prelude.{◌≡◌, length, IfOk, Err};
-ghost use Rattle.am_types.specs.Limits.{longest_actor};
 ghost use Rattle.am_change.specs.Judgement.{Judges};
 
 use crate::copying::change_in;
@@ -27,6 +26,7 @@ impl<'a> Model for ChangeRef<'a> {
     ghost use Rattle.std.specs.Prelude.{◌≡◌, ◌≤◌, ◌*◌, length};
     ghost use Rattle.std.specs.List.{AllByRecursion};
     ghost use Rattle.am_types.specs.declared.Change.{Change};
+    ghost use Rattle.am_types.specs.Limits.{longest_actor};
     ghost use Rattle.am_change.specs.Building.{front_of, change_with, IsOpWithin};
 
     ghost Value = { Change };

@@ -1,4 +1,8 @@
--- The specifications of the columns of change rows. (Automerge Binary Document Format, "Change Columns".)
+-- The specifications of the columns of change rows. (Automerge Binary Document Format, "Document Chunks".)
+--     author, seq, max             who made the change, its number among those of its author, and its last counter
+--     time, message                when it was made, and what its author noted
+--     dep_count, dep_index         how many dependencies it has, and their places among the change rows
+--     extra_metadata, extra_raw    the length of what later versions added, and its bytes
 use Rattle.std.specs.Prelude.{ℕ}
 
 abbrev pub author : ℕ

@@ -3,7 +3,8 @@
 --     nothing                     the two sets of an empty store
 --     IsKept k                    what holds of the two sets of each store
 --     counts_with t n             the totals t of a closed set, beside the number n of the waiting changes
---     counts_of k                 those of the sets k
+--     counts_of k                 the counts of the sets k: of the closed one its changes, operations, predecessors and
+--                                 dependencies; and how many changes wait
 --     Takes old L r new           the members L, delivered to the sets old, leave the sets new, each in some order, with the
 --                                 report r
 --     Delivered old cs r new      the same of the changes cs, each beside its own hash

@@ -74,7 +74,7 @@ fn settled<'a>(rt: &impl Abort, alloc: Global, staged: &'a mut StagedStore) -> &
     staged.store()
 }
 
-/// A file that is refused leaves what is staged.
+// A file that is refused leaves what is staged.
 #[test]
 fn refused_files_change_nothing(rt: HostRuntime) {
     let mut staged = none_staged(&rt, rt.alloc());

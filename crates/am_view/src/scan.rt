@@ -49,6 +49,7 @@ pub struct Scan<'a> {
 impl<'a> Model for Scan<'a> {
     ghost use Rattle.std.specs.Prelude.{List, length, map, ◌≡◌, ◌≤◌};
     ghost use Rattle.am_types.specs.declared.Row.{Row};
+    ghost use Rattle.am_types.specs.Limits.{most_operations};
     ghost use Rattle.am_fields.specs.Layout.{flat};
     ghost use Rattle.am_doccols.specs.Rows.{rows_from};
 
