@@ -156,7 +156,8 @@ fn reads_values_that_are_given(rt: HostRuntime) {
     assert!(rt; ValueColumns::given(&numbers, &[0x61, 0x62], 4).is_err());
     assert!(rt; ValueColumns::given(&[0x00, 0x01], &[], 1).is_err());
     assert!(rt; ValueColumns::given(&[], &[], 1).is_err());
-    assert!(rt; ValueColumns::given(&[], &[], 0).is_ok());
+    let none = ValueColumns::given(&[], &[], 0).expect(&rt, "no values");
+    assert!(rt; none.left() == 0);
 }
 
 #[test]

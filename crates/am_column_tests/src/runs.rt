@@ -226,10 +226,13 @@ fn repeated_numbers(rt: HostRuntime) {
     assert!(rt; numbers.next() == Some(Some(5)));
     assert!(rt; numbers.left() == 6);
     assert!(rt; numbers.like() == Some((Some(5), 2)));
-    assert!(rt; numbers.again().next_alike_within(4) == Some((Some(5), 2)));
+    let mut alike = numbers.again();
+    assert!(rt; alike.next_alike_within(4) == Some((Some(5), 2)));
+    assert!(rt; alike.next_alike_within(4) == Some((Some(7), 1)));
     numbers.skip(2);
     assert!(rt; numbers.next() == Some(Some(7)));
     assert!(rt; numbers.like() == Some((Some(128), 1)));
+    assert!(rt; numbers.again().next() == Some(Some(128)));
     assert!(rt; numbers.next_alike_within(4) == Some((Some(128), 1)));
     assert!(rt; numbers.again().next() == Some(None));
     numbers.skip(1);
@@ -247,6 +250,9 @@ fn repeated_words(rt: HostRuntime) {
     assert!(rt; words.left() == 6);
     assert!(rt; words.again().next() == Some(Some("é")));
     words.skip(1);
+    let mut behind = words.again();
+    behind.skip(2);
+    assert!(rt; behind.left() == 3);
     assert!(rt; words.next() == Some(Some("a")));
     assert!(rt; words.again().next() == Some(Some("a")));
     assert!(rt; words.next_alike_within(1) == Some((Some("a"), 1)));

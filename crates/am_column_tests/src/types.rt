@@ -1,9 +1,93 @@
-//! Outside values: how many bytes an actor has, how ids and bytes are ordered, and what is taken over from others.
+//! Each call once: what is built, lent, compared and copied is what was put in.
 use am_types::{
-    ActorFault, ActorId, Bytes, IdRef, List, Text, compare_bytes, compare_ids, same_bytes,
+    ActorFault, ActorId, Bytes, Document, Entry, EntryRef, Hash, IdRef, Key, KeyRef, List, Meta,
+    ObjId, ObjRef, OpId, RawValue, Row, Table, Text, Twin, compare_bytes, compare_ids, same_bytes,
 };
+use std::alloc::{AllocError, Global};
 use std::cmp::Ordering;
+use std::process::Abort;
 use std::test::Fail;
+
+fn id(alloc: Global, counter: u64, actor: &[u8]) -> Result<OpId, ActorFault> {
+    let actor = ActorId::of(alloc, actor)?;
+    Ok(OpId { counter, actor })
+}
+
+// A list of one item.
+fn one<T: Drop>(alloc: Global, item: T) -> Result<List<T>, AllocError> {
+    let mut list = List::new(alloc);
+    list.push(item)?;
+    Ok(list)
+}
+
+fn row(alloc: Global) -> Result<Row, ActorFault> {
+    let obj = ObjId::Made(id(alloc, 1, &[0xaa])?);
+    let key = Key::Elem(id(alloc, 2, &[0xaa])?);
+    let succs = one(alloc, id(alloc, 4, &[0xbb])?)?;
+    let id = id(alloc, 3, &[0xaa])?;
+    let raw = Bytes::copy_of(alloc, b"x")?;
+    let mark = Some(Text::copy_of(alloc, "bold")?);
+    Ok(Row {
+        obj,
+        key,
+        id,
+        insert: true,
+        action: 1,
+        value: RawValue { kind: 6, raw },
+        succs,
+        expand: false,
+        mark,
+    })
+}
+
+fn meta(alloc: Global) -> Result<Meta, ActorFault> {
+    let actor = ActorId::of(alloc, &[0xaa])?;
+    let message = Text::copy_of(alloc, "first")?;
+    let deps = one(alloc, 0)?;
+    let extra = Bytes::copy_of(alloc, &[1, 2])?;
+    Ok(Meta {
+        actor,
+        seq: 1,
+        max: 4,
+        time: -5,
+        message,
+        deps,
+        extra,
+    })
+}
+
+fn table(alloc: Global) -> Result<Table, ActorFault> {
+    let actors = one(alloc, ActorId::of(alloc, &[0xaa])?)?;
+    let heads = one(alloc, Hash([7; 32]))?;
+    let metas = one(alloc, meta(alloc)?)?;
+    let rows = one(alloc, row(alloc)?)?;
+    let suffix = Some(one(alloc, 0)?);
+    Ok(Table {
+        actors,
+        heads,
+        metas,
+        rows,
+        suffix,
+    })
+}
+
+fn document(alloc: Global) -> Result<Document, ActorFault> {
+    let obj = ObjId::Made(id(alloc, 1, &[0xaa])?);
+    let slot = Key::Elem(id(alloc, 2, &[0xaa])?);
+    let id = id(alloc, 3, &[0xaa])?;
+    let raw = Bytes::copy_of(alloc, &[10])?;
+    let entry = Entry {
+        obj,
+        slot,
+        id,
+        action: 1,
+        value: RawValue { kind: 8, raw },
+        total: 10,
+    };
+    Ok(Document {
+        entries: one(alloc, entry)?,
+    })
+}
 
 // How many bytes there are, and whether they are an actor.
 const LENGTHS: &[(usize, bool)] = &[(0, false), (1, true), (1024, true), (1025, false)];
@@ -94,5 +178,54 @@ fn more_bytes_than_lie_inside(rt: HostRuntime) -> Result<(), Fail> {
     grown.push_slice(&seventeen[16..])?;
     assert!(rt; grown.as_slice() == &seventeen[..]);
     assert!(rt; Bytes::copy_of(alloc, &seventeen)?.as_slice() == &seventeen[..]);
+    Ok(())
+}
+
+fn is_copied<T: Twin + PartialEq + Drop>(alloc: Global, item: &T) -> Result<bool, AllocError> {
+    Ok(item.copy(alloc)? == *item)
+}
+
+fn table_is_copied(alloc: Global) -> Result<bool, ActorFault> {
+    let table = table(alloc)?;
+    Ok(is_copied(alloc, &table)?)
+}
+
+fn document_is_copied(alloc: Global) -> Result<bool, ActorFault> {
+    let document = document(alloc)?;
+    Ok(is_copied(alloc, &document)?)
+}
+
+#[test]
+fn copies_equal_what_they_copy(rt: HostRuntime) -> Result<(), Fail> {
+    assert!(rt; table_is_copied(rt.alloc())?);
+    assert!(rt; document_is_copied(rt.alloc())?);
+    Ok(())
+}
+
+fn is_the_entry(rt: &impl Abort, entry: &EntryRef<'_>) {
+    match (entry.obj, entry.slot) {
+        (ObjRef::Made(obj), KeyRef::Elem(slot)) => {
+            assert!(rt; obj.counter == 1);
+            assert!(rt; obj.actor == b"\xaa".as_slice());
+            assert!(rt; slot.counter == 2);
+        }
+        _ => assert!(rt; false, "another place"),
+    }
+    assert!(rt; entry.id.counter == 3);
+    assert!(rt; (entry.action, entry.value.kind, entry.total) == (1, 8, 10));
+    assert!(rt; entry.value.raw == b"\x0a".as_slice());
+}
+
+fn lends_its_entries(rt: &impl Abort, document: &Document) {
+    assert!(rt; document.entries.len() == 1);
+    for i in 0..document.entries.len() {
+        is_the_entry(rt, &document.entry(i));
+    }
+}
+
+#[test]
+fn lends_what_it_has(rt: HostRuntime) -> Result<(), Fail> {
+    let document = document(rt.alloc())?;
+    lends_its_entries(&rt, &document);
     Ok(())
 }
