@@ -1,4 +1,13 @@
 -- The specifications of the columns of operations and of rows. (Automerge Binary Document Format, "Operation Columns".)
+--     object_actor, object_counter         the id of the object
+--     key_actor, key_counter, key_name     the key: an element by its id, the front by the counter 0 alone, or a name
+--     id_actor, id_counter                 the id of a row; operations of a change have no such columns
+--     insert, action                       whether it inserts, and the action
+--     value_metadata, value_raw            the kind and the length of the value, and its bytes; of change rows, which have
+--                                          the same columns, those of what later versions added
+--     pred_count, pred_actor, pred_counter     how many predecessors an operation has, and their ids
+--     succ_count, succ_actor, succ_counter     how many successors a row has, and their ids
+--     expand, mark                         whether a mark grows at its end, and its name
 use Rattle.std.specs.Prelude.{ℕ}
 
 abbrev pub object_actor : ℕ
