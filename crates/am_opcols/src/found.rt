@@ -30,25 +30,26 @@ pub struct OpColumns<'a> {
 impl<'a> Model for OpColumns<'a> {
     ghost use Rattle.std.specs.Prelude.{List, ℕ, ◌≡◌};
     ghost use Rattle.am_colmeta.specs.Metadata.{column_at};
+    ghost use Rattle.am_fields.specs.Specifications as specifications;
 
     ghost Value = { List (ℕ × List ℕ) };
 
     ghost view = { λ c. c.columns };
 
-    ghost invariant = { λ c. (c.object_actor.now ≡ column_at c.columns 1)
-        × (c.object_counter.now ≡ column_at c.columns 2)
-        × (c.key_actor.now ≡ column_at c.columns 17)
-        × (c.key_counter.now ≡ column_at c.columns 19)
-        × (c.key_name.now ≡ column_at c.columns 21)
-        × (c.insert.now ≡ column_at c.columns 52)
-        × (c.action.now ≡ column_at c.columns 66)
-        × (c.numbers.now ≡ column_at c.columns 86)
-        × (c.raw.now ≡ column_at c.columns 87)
-        × (c.group.now ≡ column_at c.columns 112)
-        × (c.pred_actor.now ≡ column_at c.columns 113)
-        × (c.pred_counter.now ≡ column_at c.columns 115)
-        × (c.expand.now ≡ column_at c.columns 148)
-        × (c.mark.now ≡ column_at c.columns 165) };
+    ghost invariant = { λ c. (c.object_actor.now ≡ column_at c.columns specifications.object_actor)
+        × (c.object_counter.now ≡ column_at c.columns specifications.object_counter)
+        × (c.key_actor.now ≡ column_at c.columns specifications.key_actor)
+        × (c.key_counter.now ≡ column_at c.columns specifications.key_counter)
+        × (c.key_name.now ≡ column_at c.columns specifications.key_name)
+        × (c.insert.now ≡ column_at c.columns specifications.insert)
+        × (c.action.now ≡ column_at c.columns specifications.action)
+        × (c.numbers.now ≡ column_at c.columns specifications.value_metadata)
+        × (c.raw.now ≡ column_at c.columns specifications.value_raw)
+        × (c.group.now ≡ column_at c.columns specifications.pred_count)
+        × (c.pred_actor.now ≡ column_at c.columns specifications.pred_actor)
+        × (c.pred_counter.now ≡ column_at c.columns specifications.pred_counter)
+        × (c.expand.now ≡ column_at c.columns specifications.expand)
+        × (c.mark.now ≡ column_at c.columns specifications.mark) };
 }
 
 // The bytes of the column with the specification, and no bytes where it isn't listed. The columns up to it are taken off
