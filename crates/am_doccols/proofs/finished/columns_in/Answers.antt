@@ -1,5 +1,4 @@
-use Rattle.std.proofs.Common.{map, length, [], refl, sym, subst, ◌∙◌}
-use Rattle.am_fields.specs.Held.{FieldsSpelled}
+use Rattle.std.proofs.Common.{map, length, [], refl, ◌∙◌}
 use Rattle.am_fields.specs.Columns.{Numbers, Deltas, Texts, Actors, Flags, RareFlags, Raw, Counts}
 use Rattle.am_fields.specs.Layout.{object_actor, object_counter, key_actor, key_counter, key_string, id_actor, id_counter, flat, given}
 use Rattle.am_values.specs.Columns.{metadata, joined}
@@ -10,7 +9,7 @@ use Rattle.am_doccols.proofs.finished.columns_in.Goals as goal
 
 pub returns : goal.returns
 returns c actors rows h =
-    let f = subst (FieldsSpelled actors (row_lists rows)) (sym c.fill.ensures.fields) (c.in_ok-finish.ensures.ok actors (row_lists rows) h.fields_are (fields_fit actors rows h.all h.few)) in
+    let f = c.in_ok-fields.ensures.ok actors (row_lists rows) h.fields_are (fields_fit actors rows h.all h.few) in
     let ids = map (λ r. r.id) rows in
     let succs = flat (map (λ r. r.succs) rows) in
     let i = c.in_ok-fill.ensures.ids actors ids h.ids_are (ids_fit actors rows h.all h.few) in
