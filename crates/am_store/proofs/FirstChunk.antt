@@ -42,7 +42,7 @@ module _ (k kind : ℕ) (bytes contents rest : List ℕ) (e : k ≡ kind) (b : b
 
 -- ---- changes
 
-holds_change : (only : Bool) (k : Chunk) (c : Change) → HoldsChange k c → Holds only k (c ∷ [])
+pub holds_change : (only : Bool) (k : Chunk) (c : Change) → HoldsChange k c → Holds only k (c ∷ [])
 holds_change true k c h = (c, h, refl)
 holds_change false k c h = inl (c, h, refl)
 

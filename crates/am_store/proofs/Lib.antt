@@ -1,4 +1,5 @@
 pub mod Adopting
+pub mod AnyFile
 pub mod AnyOrder
 pub mod Chunking
 pub mod Counting

@@ -15,3 +15,4 @@ pub mod Staged
 pub mod Staging
 pub mod Unsettled
 pub mod Whole
+pub mod AnyFile

@@ -2,6 +2,7 @@
 //! at all.
 #![tactic(auto)]
 
+mod any_file;
 mod chunk;
 mod contents;
 mod copies;
@@ -27,6 +28,7 @@ mod waiting;
 
 pub use am_graph::ClockFault;
 pub use am_types::{Rejected, Why};
+pub use any_file::some_reading;
 pub use fault::{LoadError, LoadFault, ReadFault};
 pub use history::HistoryLine;
 pub use laws::{documents_are_read_back, documents_tell_sets, one_reading};
