@@ -15,4 +15,5 @@ pub mod Pushed
 pub mod SameHeld
 pub mod SameView
 pub mod Settling
+pub mod SomeAnswer
 pub mod Texts

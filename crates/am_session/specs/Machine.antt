@@ -1,10 +1,12 @@
 -- The machine that a script drives. It is a relation: from a state it may give this reply to what is asked, and go
--- on to that state. A further command is one more case of Answers, names_file and kept_file.
+-- on to that state. A further command is one more case of Answers, read_file,
+-- names_file and kept_file.
 --     SameState s t       the same is held, however it is listed, and the same files stand there
 --     with_file name bytes files     the files, with this one under this name
 --     Keeps old name bytes reply new     a command keeps this file, and tells its length
 --     Exports found old hash name reply new     the same of the chunk that is found, or the hash is refused
 --     Answers old asked reply new
+--     Replied old asked   the machine has some reply to what is asked
 --     Runs stops old asked replies new left     the machine gives these replies to the first of what is asked
 use Rattle.std.specs.Prelude.{◌≡◌, ℕ, ◌∷◌, List, [], length, codes, Bool, true, false, ◌&&◌, Option, None, Some, if◌then◌else◌}
 use Rattle.std.specs.Option.{option_map}
@@ -78,6 +80,10 @@ Answers old LongLine reply new = (reply ≡ refused (codes "line")) × (new ≡ 
 Answers old Syntax reply new = (reply ≡ refused (codes "syntax")) × (new ≡ old)
 Answers old BadHash reply new = (reply ≡ refused (codes "hash")) × (new ≡ old)
 
+-- from old, the machine may give some reply to what is asked
+abbrev pub Replied : State → Request → Type 0
+Replied old asked = (reply : List ℕ) × (new : State) × Answers old asked reply new
+
 -- what is left to do after a reply: nothing where a run stops at a refused one
 abbrev pub left_after : Bool → List ℕ → List Request → List Request
 left_after stops reply more = if stops && is_refused reply then [] else more
@@ -107,6 +113,26 @@ names_file (Do (Bench count)) = false
 names_file LongLine = false
 names_file Syntax = false
 names_file BadHash = false
+
+-- the file that a command reads
+abbrev pub read_file : Request → Option (List ℕ)
+read_file (Do (Frames name)) = Some name
+read_file (Do (Apply name)) = Some name
+read_file (Do (Load name)) = Some name
+read_file (Do (Save name)) = None
+read_file (Do (SaveAll name)) = None
+read_file (Do Heads) = None
+read_file (Do Waiting) = None
+read_file (Do History) = None
+read_file (Do (Show named)) = None
+read_file (Do (Conflicts named)) = None
+read_file (Do (Audit named)) = None
+read_file (Do (Export hash name)) = None
+read_file (Do Stats) = None
+read_file (Do (Bench count)) = None
+read_file LongLine = None
+read_file Syntax = None
+read_file BadHash = None
 
 -- the file that a command keeps, where this is held
 abbrev pub kept_file : Held → Request → Option (List ℕ)

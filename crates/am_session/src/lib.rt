@@ -19,7 +19,7 @@ mod stop;
 mod views;
 
 pub use answering::answer;
-pub use laws::one_run;
+pub use laws::{one_run, some_answer};
 pub use replies::refuses;
 pub use request::{Request, RequestRef};
 pub use session::Session;
