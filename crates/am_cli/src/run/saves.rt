@@ -33,6 +33,11 @@ const WAITING: &str =
      c088d1fe97ecf9c964cfa6ce3201aa020200000008150334014202560257017002710273027f0161017f017f\
      13027f017f007f01";
 
+// The chunk of E2.
+const MIDDLE: &str =
+    "856f4a838f044de3012901c2d41eda67b06af83d47e4dad1ed7052f50cae7a8eff6882d024a4faca6cb82301\
+     aa020400000000";
+
 // The chunk of A1.
 const CHUNK: &str =
     "856f4a83d99aa04d01200001aa0101000000061503340142025602570170027f0161017f017f13017f00";
@@ -89,6 +94,16 @@ const CASES: &[Case] = &[
         script: "apply A1\nexport D99AA04D2627B06462EA181E063A2E07E16255C088D1FE97ECF9C964CFA6CE32 kept\n",
         replies: "ok added 1 waiting 0 rejected 0\nok 42\n",
         kept: CHUNK,
+    },
+    Case {
+        script: "load F\nsave kept\n",
+        replies: "ok added 2 waiting 0 rejected 0\nok 147\n",
+        kept: BOTH,
+    },
+    Case {
+        script: "load E\nshow\nexport 8f044de3eafa9501042840995bcf6669e83e54bab743192adbaace682ff3d305 kept\n",
+        replies: "ok added 3 waiting 0 rejected 0\n{\"a\":1,\"b\":2,\"c\":3,\"d\":4}\nok 51\n",
+        kept: MIDDLE,
     },
 ];
 
